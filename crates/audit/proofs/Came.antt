@@ -16,7 +16,7 @@ use Rattle.steptree.specs.Bodies.{Along, Asks, Ending, Faults, Gives}
 use Rattle.steptree.specs.Laws.{LookUpEndsOnce}
 use Rattle.steplang.specs.declared.outcome.Given.{Given}
 use Rattle.steplang.specs.declared.outcome.Bad.{Bad}
-use Rattle.steplang.specs.declared.outcome.Parked.{Parked}
+use Rattle.steplang.specs.Running.{Asking}
 use Rattle.graph.specs.Graph.{BodyMeans, Graph}
 use Rattle.graph.specs.Fits.{AreNew, IsAbsent}
 use Rattle.machine.specs.Legal.{Conflicts, IsAtFault, Needs}
@@ -33,9 +33,9 @@ body_gives along g X task given is = along g X task given.checked.now.body given
 pub body_faults : FaultsAlong → (g : Graph) (X : Facts) (task : Inst) (fault : Bad) → IsOutcomeIn g X task (Fault fault) → BodyFaults g X task fault.kind
 body_faults along g X task fault is = along g X task fault.checked.now.body fault.reads fault.kind is.1 is.2 (subst (λ (i : Inst). Along fault.checked.now.body i.key fault.reads (Faults fault.kind)) is.0 fault.along)
 
-pub body_needs : NeedsAlong → (g : Graph) (X : Facts) (task : Inst) (parked : Parked) → IsParkedIn g X task parked → IsAbsent X parked.address → Needs g X task parked.address
-body_needs along g X task parked is absent =
-    along g X task parked.checked.now.body parked.reads parked.address is.body is.reads (subst (λ (i : Inst). Along parked.checked.now.body i.key parked.reads (Asks parked.address)) is.instance_is parked.along) absent
+pub body_needs : NeedsAlong → (g : Graph) (X : Facts) (task : Inst) (asking : Asking) → IsParkedIn g X task asking → IsAbsent X asking.address → Along asking.checked.now.body asking.instance.key asking.reads (Asks asking.address) → Needs g X task asking.address
+body_needs along g X task asking is absent asks =
+    along g X task asking.checked.now.body asking.reads asking.address is.body is.reads (subst (λ (i : Inst). Along asking.checked.now.body i.key asking.reads (Asks asking.address)) is.instance_is asks) absent
 
 -- new puts do not conflict
 pub new_or_conflicts : (X : Facts) (puts : List Put) → AreNew X puts → Conflicts X puts → ⊥

@@ -11,6 +11,7 @@ ghost use Rattle.machine.specs.Machine.{facts};
 ghost use Rattle.audit.specs.Replayed.{LacksItem};
 
 use machine::Machine;
+use maps::Hint;
 use terms::{Addr, Inst, Producer, Tag, equals_are_one, facts_are_told_apart};
 
 /// The first instance that is done in the store and was not replayed.
@@ -41,6 +42,7 @@ pub(crate) fn item_left(store: &Machine, made: &Machine) -> Option<Addr>
     ensures none { result ≡ None → (address : Address) (value : ℤ) (by : Putter) → facts store.now (item address value by) ≡ true → facts made.now (item address value by) ≡ true }
 {
     facts_are_told_apart();
+    let mut hint = Hint::new();
     let mut beside = made.items();
     for (addr, (value, producer)) in store.items() {
         let at = addr;
@@ -49,7 +51,7 @@ pub(crate) fn item_left(store: &Machine, made: &Machine) -> Option<Addr>
             continue;
         }
         let place = addr;
-        if !has_item(made, place, value, producer) {
+        if !has_item(made, place, value, producer, &mut hint) {
             return Some(addr);
         }
     }
@@ -113,11 +115,17 @@ fn is_tag(next: Option<(Tag, bool)>, tag: Tag) -> bool
     }
 }
 
-/// Whether an item is there with this value and by this producer.
-pub(crate) fn has_item(machine: &Machine, addr: Addr, value: i64, producer: Producer) -> bool
+/// Whether an item is there with this value and by this producer. It looks first where the hint says.
+pub(crate) fn has_item(
+    machine: &Machine,
+    addr: Addr,
+    value: i64,
+    producer: Producer,
+    hint: &mut Hint,
+) -> bool
     ensures { result ≡ facts machine.now (item addr value producer) }
 {
-    match machine.item(addr) {
+    match machine.item_near(addr, hint) {
         Some((there, by)) => there == value && by.cmp(&producer).is_eq(),
         None => false,
     }

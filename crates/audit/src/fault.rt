@@ -39,6 +39,8 @@ pub(crate) fn is_at_fault(
         }
         Came::Ended(Outcome::Fault(bad)) => Ok(bad.kind().number() == kind.number()),
         Came::Waits(parked) => {
+            // What is known of it: its body asks for the item.
+            parked.address();
             drop(parked);
             Ok(false)
         }

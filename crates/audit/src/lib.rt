@@ -9,6 +9,7 @@ mod begin;
 mod certificate;
 mod compare;
 mod fault;
+mod hints;
 mod replay;
 mod steps;
 

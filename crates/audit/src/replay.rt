@@ -3,6 +3,7 @@ ghost use Rattle.std.specs.Prelude.{◌≡◌, true, false, Ok, OnOk};
 ghost use Rattle.audit.specs.Replayed.{AreLeftOut, IsReplayed, NoneIsReady, ReplaysOne};
 
 use crate::Progress;
+use crate::hints::Hints;
 use crate::steps::replay_task;
 use graph::Graph;
 use machine::Machine;
@@ -28,8 +29,9 @@ pub(crate) fn replay<P: Progress>(
     // What is known of the instances that are done: they are listed, and each round replays one of them.
     store.done();
     let graph = Arc::clone(store.graph())?;
+    let mut hints = Hints::new();
     loop {
-        if !replay_one(alloc, store, &graph, made)? {
+        if !replay_one(alloc, store, &graph, made, &mut hints)? {
             return Ok(());
         }
         progress.replayed();
@@ -42,6 +44,7 @@ fn replay_one(
     store: &Machine,
     graph: &Graph,
     made: &mut Machine,
+    hints: &mut Hints,
 ) -> Result<bool, AllocError>
     requires graph { graph.now ≡ store.now.graph }
     requires replayed { IsReplayed store.now made.old }
@@ -59,7 +62,7 @@ fn replay_one(
                 return Ok(false);
             }
             Some(task) => {
-                if replay_task(alloc, store, graph, made, task)? {
+                if replay_task(alloc, store, graph, made, task, hints)? {
                     return Ok(true);
                 }
             }

@@ -8,6 +8,7 @@ ghost use Rattle.machine.specs.Machine.{facts, state_of};
 ghost use Rattle.audit.specs.Replayed.{AreOthersLeftOut, HasAll, IsReplayed, Replays};
 
 use crate::compare::has_item;
+use crate::hints::Hints;
 use commit::{Came, Outcome, run_body};
 use graph::Graph;
 use instances::Task;
@@ -24,6 +25,7 @@ pub(crate) fn replay_task(
     graph: &Graph,
     made: &mut Machine,
     task: Task,
+    hints: &mut Hints,
 ) -> Result<bool, AllocError>
     requires graph { graph.now ≡ store.now.graph }
     requires running { state_of made.old task ≡ Some Running }
@@ -36,20 +38,23 @@ pub(crate) fn replay_task(
     ends_once();
     let inst = task.inst();
     let name = inst;
-    if !store.is_done(name) {
+    if !store.is_done_near(name, &mut hints.done) {
         made.set_aside(task);
         return Ok(false);
     }
     made.is_kept();
     match run_body(alloc, made, graph, inst) {
-        Ok(Came::Ended(Outcome::Gave(given))) => { end(store, made, task, given.puts().as_slice()) }
+        Ok(Came::Ended(Outcome::Gave(given))) => {
+            end(store, made, task, given.puts().as_slice(), hints)
+        }
         Ok(Came::Ended(Outcome::Fault(bad))) => {
             drop(bad);
             made.set_aside(task);
             Ok(false)
         }
         Ok(Came::Waits(parked)) => {
-            made.park(task, parked.address)?;
+            let address = parked.address();
+            made.park(task, address)?;
             Ok(false)
         }
         Err(error) => {
@@ -60,7 +65,13 @@ pub(crate) fn replay_task(
 }
 
 // Takes the end of an instance whose body gave these puts, if the store has them all.
-fn end(store: &Machine, made: &mut Machine, task: Task, puts: &[Put]) -> Result<bool, AllocError>
+fn end(
+    store: &Machine,
+    made: &mut Machine,
+    task: Task,
+    puts: &[Put],
+    hints: &mut Hints,
+) -> Result<bool, AllocError>
     requires running { state_of made.old task ≡ Some Running }
     requires replayed { IsReplayed store.now made.old }
     requires left_out { AreOthersLeftOut store.now made.old task }
@@ -73,7 +84,7 @@ fn end(store: &Machine, made: &mut Machine, task: Task, puts: &[Put]) -> Result<
     given_are_of_graph();
     ends_once();
     made.is_kept();
-    if !has_all(store, task.inst(), puts) {
+    if !has_all(store, task.inst(), puts, hints) {
         made.set_aside(task);
         return Ok(false);
     }
@@ -100,13 +111,13 @@ fn end(store: &Machine, made: &mut Machine, task: Task, puts: &[Put]) -> Result<
 }
 
 // Whether the store has all that these puts of an instance state.
-fn has_all(store: &Machine, inst: Inst, puts: &[Put]) -> bool
+fn has_all(store: &Machine, inst: Inst, puts: &[Put], hints: &mut Hints) -> bool
     requires { length puts.now ≤ MOST_PUTS }
     ensures { IsTrue result ↔ HasAll (facts store.now) inst puts.now }
 {
     for number in 0..puts.len() {
         let by = inst;
-        if !has_put(store, by, number as u32, &puts[number]) {
+        if !has_put(store, by, number as u32, &puts[number], hints) {
             return false;
         }
     }
@@ -114,11 +125,14 @@ fn has_all(store: &Machine, inst: Inst, puts: &[Put]) -> bool
 }
 
 // Whether the store has what a put of an instance states; `number` is the put's number.
-fn has_put(store: &Machine, inst: Inst, number: u32, put: &Put) -> bool
+fn has_put(store: &Machine, inst: Inst, number: u32, put: &Put, hints: &mut Hints) -> bool
     ensures { result ≡ facts store.now (put_fact inst number put.now) }
 {
     match put {
-        Put::Item(addr, value) => has_item(store, *addr, *value, Producer::By(inst, number)),
-        Put::Tag(tag) => store.mark(*tag).is_some(),
+        Put::Item(addr, value) => {
+            let by = Producer::By(inst, number);
+            has_item(store, *addr, *value, by, &mut hints.items)
+        }
+        Put::Tag(tag) => store.mark_near(*tag, &mut hints.tags).is_some(),
     }
 }

@@ -60,14 +60,8 @@ fn made(alloc: Global, checked: &Checked) -> Result<usize, AllocError> {
 fn sum(alloc: Global) -> Result<Checked, AllocError> {
     let put = put_of(alloc)?;
     let write = loop_of(alloc, put)?;
-    Ok(Checked {
-        names: Vec::new(alloc),
-        parameters: 1,
-        body: Body {
-            read: Block::end(),
-            write,
-        },
-    })
+    let read = Block::end();
+    Checked::new(alloc, Vec::new(alloc), 1, Body { read, write })
 }
 
 // put [0] = a;

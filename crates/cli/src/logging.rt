@@ -18,8 +18,8 @@ use vault::{LiveSide, read_live};
 
 /// Writes the log of a store.
 pub(crate) fn log<D: Disk, W: Write>(alloc: Global, disk: D, out: &mut W) -> (D, Outcome)
-    ensures { IsNotOpened D.files D.moment D.left_at D.failures D.refusals (IsTrue D.is_honest) (W.contents out.old) (W.contents out.new) disk result.0 result.1
-        ⊎ Logs D.files D.moment D.left_at D.failures D.refusals (IsTrue D.is_honest) (W.contents out.old) (W.contents out.new) disk result.0 result.1 }
+    ensures { IsNotOpened D.Disk (W.contents out.old) (W.contents out.new) disk result.0 result.1
+        ⊎ Logs D.Disk (W.contents out.old) (W.contents out.new) disk result.0 result.1 }
 {
     let mut disk = disk;
     match read_live(alloc, &mut disk) {

@@ -77,7 +77,7 @@ pub fn obey<D: Disk + Send, R: Read, W: Write, E: Errors, H: Threads + Wait + Sy
     driver: &Driver<'_, H, P>,
 ) -> (D, u8)
     ensures { (outcome : Came) × (result.1 ≡ status_of outcome)
-        × Obeys D.files D.moment D.left_at D.failures D.refusals (IsTrue D.is_honest) (drive_of MOST_LIMIT (may_be_asked P.may_stop driver.now) (may_spawn driver.now) false) command.now (R.remaining input.old) (W.contents out.old) (W.contents out.new) disk result.0 outcome }
+        × Obeys D.Disk (drive_of MOST_LIMIT (may_be_asked P.may_stop driver.now) (may_spawn driver.now) false) command.now (R.remaining input.old) (W.contents out.old) (W.contents out.new) disk result.0 outcome }
 {
     let (disk, outcome) = obeyed(alloc, command, disk, input, out, err, driver);
     if let Outcome::Failed(failure) = &outcome {
@@ -96,7 +96,7 @@ fn obeyed<D: Disk + Send, R: Read, W: Write, E: Errors, H: Threads + Wait + Sync
     err: &mut E,
     driver: &Driver<'_, H, P>,
 ) -> (D, Outcome)
-    ensures { Obeys D.files D.moment D.left_at D.failures D.refusals (IsTrue D.is_honest) (drive_of MOST_LIMIT (may_be_asked P.may_stop driver.now) (may_spawn driver.now) false) command.now (R.remaining input.old) (W.contents out.old) (W.contents out.new) disk result.0 result.1 }
+    ensures { Obeys D.Disk (drive_of MOST_LIMIT (may_be_asked P.may_stop driver.now) (may_spawn driver.now) false) command.now (R.remaining input.old) (W.contents out.old) (W.contents out.new) disk result.0 result.1 }
 {
     match *command {
         Command::Create { .. } => create(alloc, disk, input, out),
@@ -132,7 +132,7 @@ fn create<D: Disk, R: Read, W: Write>(
     input: &mut R,
     out: &mut W,
 ) -> (D, Outcome)
-    ensures { CreatesOrNot D.files D.moment D.left_at D.failures D.refusals (IsTrue D.is_honest) (R.remaining input.old) (W.contents out.old) (W.contents out.new) disk result.0 result.1 }
+    ensures { CreatesOrNot D.Disk (R.remaining input.old) (W.contents out.old) (W.contents out.new) disk result.0 result.1 }
 {
     let text = match read_text(alloc, input) {
         Ok(text) => text,
@@ -245,8 +245,8 @@ fn run<D: Disk + Send, R: Read, W: Write, H: Threads + Wait + Sync, P: Probe>(
     driver: &Driver<'_, H, P>,
     limit: u64,
 ) -> (D, Outcome)
-    ensures { IsNotOpened D.files D.moment D.left_at D.failures D.refusals (IsTrue D.is_honest) (W.contents out.old) (W.contents out.new) disk result.0 result.1
-        ⊎ Runs D.files D.moment D.left_at D.failures D.refusals (IsTrue D.is_honest) (drive_of limit (may_be_asked P.may_stop driver.now) (may_spawn driver.now) false) (R.remaining input.old) (W.contents out.old) (W.contents out.new) disk result.0 result.1 }
+    ensures { IsNotOpened D.Disk (W.contents out.old) (W.contents out.new) disk result.0 result.1
+        ⊎ Runs D.Disk (drive_of limit (may_be_asked P.may_stop driver.now) (may_spawn driver.now) false) (R.remaining input.old) (W.contents out.old) (W.contents out.new) disk result.0 result.1 }
 {
     match Core::open(alloc, disk) {
         Ok(core) => {
@@ -271,7 +271,7 @@ fn run_session<D: Disk + Send, R: Read, W: Write, H: Threads + Wait + Sync, P: P
     limit: u64,
 ) -> (Core<D>, Result<Ending, SessionError>)
     requires { NoneRuns core }
-    ensures { Answers D.files D.moment D.left_at D.failures D.refusals (IsTrue D.is_honest) (drive_of limit (may_be_asked P.may_stop driver.now) (may_spawn driver.now) (is_halted core)) (R.remaining input.old) (W.contents out.old) (W.contents out.new) core result.0 result.1 }
+    ensures { Answers D.Disk (drive_of limit (may_be_asked P.may_stop driver.now) (may_spawn driver.now) (is_halted core)) (R.remaining input.old) (W.contents out.old) (W.contents out.new) core result.0 result.1 }
 {
     let mut source = ReaderSource {
         input,
@@ -287,8 +287,8 @@ fn run_session<D: Disk + Send, R: Read, W: Write, H: Threads + Wait + Sync, P: P
 
 // Writes the report of a store in a format.
 fn report<D: Disk, W: Write>(alloc: Global, disk: D, format: Format, out: &mut W) -> (D, Outcome)
-    ensures { IsNotOpened D.files D.moment D.left_at D.failures D.refusals (IsTrue D.is_honest) (W.contents out.old) (W.contents out.new) disk result.0 result.1
-        ⊎ Reports D.files D.moment D.left_at D.failures D.refusals (IsTrue D.is_honest) format (W.contents out.old) (W.contents out.new) disk result.0 result.1 }
+    ensures { IsNotOpened D.Disk (W.contents out.old) (W.contents out.new) disk result.0 result.1
+        ⊎ Reports D.Disk format (W.contents out.old) (W.contents out.new) disk result.0 result.1 }
 {
     match Core::open(alloc, disk) {
         Ok(core) => {
@@ -304,8 +304,8 @@ fn report<D: Disk, W: Write>(alloc: Global, disk: D, format: Format, out: &mut W
 
 // Turns a store over.
 fn turn<D: Disk, W: Write>(alloc: Global, disk: D, out: &mut W) -> (D, Outcome)
-    ensures { IsNotOpened D.files D.moment D.left_at D.failures D.refusals (IsTrue D.is_honest) (W.contents out.old) (W.contents out.new) disk result.0 result.1
-        ⊎ TurnsOver D.files D.moment D.left_at D.failures D.refusals (IsTrue D.is_honest) (W.contents out.old) (W.contents out.new) disk result.0 result.1 }
+    ensures { IsNotOpened D.Disk (W.contents out.old) (W.contents out.new) disk result.0 result.1
+        ⊎ TurnsOver D.Disk (W.contents out.old) (W.contents out.new) disk result.0 result.1 }
 {
     match Core::open(alloc, disk) {
         Ok(core) => {
@@ -322,8 +322,8 @@ fn turn<D: Disk, W: Write>(alloc: Global, disk: D, out: &mut W) -> (D, Outcome)
 
 // Draws a store.
 fn draw_stored<D: Disk, W: Write>(alloc: Global, disk: D, all: bool, out: &mut W) -> (D, Outcome)
-    ensures { IsNotOpened D.files D.moment D.left_at D.failures D.refusals (IsTrue D.is_honest) (W.contents out.old) (W.contents out.new) disk result.0 result.1
-        ⊎ DrawsStore D.files D.moment D.left_at D.failures D.refusals (IsTrue D.is_honest) disk result.0 result.1 }
+    ensures { IsNotOpened D.Disk (W.contents out.old) (W.contents out.new) disk result.0 result.1
+        ⊎ DrawsStore D.Disk disk result.0 result.1 }
 {
     match Core::open(alloc, disk) {
         Ok(core) => {

@@ -29,8 +29,8 @@ pub(crate) fn report_at<D: Disk, W: Write>(
     at: u64,
     out: &mut W,
 ) -> (D, Outcome)
-    ensures { IsNotOpened D.files D.moment D.left_at D.failures D.refusals (IsTrue D.is_honest) (W.contents out.old) (W.contents out.new) disk result.0 result.1
-        ⊎ ReportsAt D.files D.moment D.left_at D.failures D.refusals (IsTrue D.is_honest) at format (W.contents out.old) (W.contents out.new) disk result.0 result.1 }
+    ensures { IsNotOpened D.Disk (W.contents out.old) (W.contents out.new) disk result.0 result.1
+        ⊎ ReportsAt D.Disk at format (W.contents out.old) (W.contents out.new) disk result.0 result.1 }
 {
     let mut disk = disk;
     match read_live(alloc, &mut disk) {

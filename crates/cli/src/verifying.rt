@@ -37,8 +37,8 @@ pub(crate) fn verify<D: Disk, W: Write, E: Errors>(
     out: &mut W,
     err: &mut E,
 ) -> (D, Outcome)
-    ensures { IsNotOpened D.files D.moment D.left_at D.failures D.refusals (IsTrue D.is_honest) (W.contents out.old) (W.contents out.new) disk result.0 result.1
-        ⊎ Verifies D.files D.moment D.left_at D.failures D.refusals (IsTrue D.is_honest) (W.contents out.old) (W.contents out.new) disk result.0 result.1 }
+    ensures { IsNotOpened D.Disk (W.contents out.old) (W.contents out.new) disk result.0 result.1
+        ⊎ Verifies D.Disk (W.contents out.old) (W.contents out.new) disk result.0 result.1 }
 {
     match Core::open(alloc, disk) {
         Ok(core) => {
@@ -176,7 +176,7 @@ fn explain_instance<D: Disk, E: Errors>(
         }
         Ok(Came::Waits(parked)) => {
             let graph = core.graph();
-            let address = parked.address;
+            let address = parked.address();
             let named = NamedAddress { graph, address };
             writeln!(
                 err,

@@ -1,5 +1,6 @@
 -- What a run keeps from one instance to the next.
-use Rattle.std.proofs.Common.{◌≡◌, ◌≢◌, ◌∙◌, ◌<◌, ◌≤◌, ◌-◌, ◌^◌, min, subst, sym, inl, inr, ℕ, false, [], Option, None, Some, IfSome, IsSome, arith}
+use Rattle.disk.specs.declared.storage.Disk.{Ghosts}
+use Rattle.std.proofs.Common.{◌≡◌, ◌≢◌, ◌∙◌, ◌<◌, ◌≤◌, ◌-◌, ◌^◌, min, subst, sym, inl, inr, ℕ, false, [], Option, None, Some, IfSome, IsSome, arith, IsTrue}
 use Rattle.std.proofs.lemmas.Bool.{cases_lt, false≢true}
 use Rattle.disk.specs.declared.side.Side.{Side}
 use Rattle.disk.specs.File.{File}
@@ -22,8 +23,8 @@ use Rattle.commit.proofs.Counted.{none_is_ready, none_runs}
 use Rattle.commit.proofs.Joined.{goes_on}
 use Rattle.commit.proofs.Running.{as_it_was, moved, rests}
 
-pub record Driven {D : Type 0} (files : D → Side → File) (moment : D → ℕ) (left_at : D → ℕ → Contents → Type 0) (failures refusals : D → ℕ) (honest : Type 0) (given : Graph) (first now : Core D) : Type 0 where
-  pub runs : RunsOn files moment left_at failures refusals honest first now
+pub record Driven {D : Type 0} (storage : Ghosts D) (given : Graph) (first now : Core D) : Type 0 where
+  pub runs : RunsOn storage first now
   pub idle : NoneRuns now
   pub working : is_halted now ≡ false
   pub settled : now.in_doubt ≡ []
@@ -46,13 +47,13 @@ pub of_claim : {D : Type 0} (old new : Core D) (at : ℕ) (claimed : Option Inst
 of_claim old new at claimed task is promised = subst (λ (o : Option Inst). IfSome o (λ one. MayClaim old at × (state_of old one ≡ Some Ready) × Moves old new one Running)) is promised
 
 module _
-    {D : Type 0} (files : D → Side → File) (moment : D → ℕ) (left_at : D → ℕ → Contents → Type 0) (failures refusals : D → ℕ) (honest : Type 0) (both : AmongBoth) (gates_stay : honest → GatesStay files moment left_at)
-    (rest_leaves : honest → RestLeaves files moment left_at) (gates_rest : honest → GatesRest files moment left_at) (given : Graph)
+    {D : Type 0} (storage : Ghosts D) (both : AmongBoth) (gates_stay : IsTrue storage.is_honest → GatesStay storage.files storage.moment storage.left_at)
+    (rest_leaves : IsTrue storage.is_honest → RestLeaves storage.files storage.moment storage.left_at) (gates_rest : IsTrue storage.is_honest → GatesRest storage.files storage.moment storage.left_at) (given : Graph)
   where
     -- nothing has run yet
-    pub begins : (first : Core D) → given ≡ graph first → NoneRuns first → is_halted first ≡ false → first.in_doubt ≡ [] → (honest → IsKept files first) → Driven files moment left_at failures refusals honest given first first
+    pub begins : (first : Core D) → given ≡ graph first → NoneRuns first → is_halted first ≡ false → first.in_doubt ≡ [] → (IsTrue storage.is_honest → IsKept storage.files first) → Driven storage given first first
     begins first graph_is idle working settled kept = record {
-      runs = as_it_was files moment left_at failures refusals honest rest_leaves gates_rest first working settled kept;
+      runs = as_it_was storage rest_leaves gates_rest first working settled kept;
       idle = idle;
       working = working;
       settled = settled;
@@ -61,16 +62,16 @@ module _
     }
 
     -- an instance was claimed, and then its run came to this
-    pub runs_on : (first mid claimed new : Core D) (task : Inst) → Driven files moment left_at failures refusals honest given first mid → (honest → IsKept files mid) → Moves mid claimed task Running
-        → RunsOn files moment left_at failures refusals honest claimed new → RunsOn files moment left_at failures refusals honest first new
+    pub runs_on : (first mid claimed new : Core D) (task : Inst) → Driven storage given first mid → (IsTrue storage.is_honest → IsKept storage.files mid) → Moves mid claimed task Running
+        → RunsOn storage claimed new → RunsOn storage first new
     runs_on first mid claimed new task driven kept moves came =
         let same = moved mid claimed task Running moves driven.working driven.settled in
-        let claim : RunsOn files moment left_at failures refusals honest mid claimed = record { commits = []; runs = rests files moment left_at failures refusals honest rest_leaves gates_rest mid claimed driven.working kept same } in
-        goes_on files moment left_at failures refusals honest both gates_stay first claimed new same.halted same.settled
-        (goes_on files moment left_at failures refusals honest both gates_stay first mid claimed driven.working driven.settled driven.runs claim) came
+        let claim : RunsOn storage mid claimed = record { commits = []; runs = rests storage rest_leaves gates_rest mid claimed driven.working kept same } in
+        goes_on storage both gates_stay first claimed new same.halted same.settled
+        (goes_on storage both gates_stay first mid claimed driven.working driven.settled driven.runs claim) came
 
     -- and the run goes on from there
-    pub driven_on : (first new : Core D) → given ≡ graph first → RunsOn files moment left_at failures refusals honest first new → NoneRuns new → is_halted new ≡ false → new.in_doubt ≡ [] → Driven files moment left_at failures refusals honest given first new
+    pub driven_on : (first new : Core D) → given ≡ graph first → RunsOn storage first new → NoneRuns new → is_halted new ≡ false → new.in_doubt ≡ [] → Driven storage given first new
     driven_on first new graph_is runs idle working settled = record {
       runs = runs;
       idle = idle;

@@ -1,5 +1,6 @@
 -- How a core goes on: by nothing, or by several puts that are tried as one commit.
-use Rattle.std.proofs.Common.{◌≡◌, ◌∙◌, ◌≤◌, ◌++◌, ap, refl, sym, subst, inl, inr, ℕ, Bool, true, false, List, [], ◌∷◌, length, Result, Err, arith}
+use Rattle.disk.specs.declared.storage.Disk.{Ghosts}
+use Rattle.std.proofs.Common.{◌≡◌, ◌∙◌, ◌≤◌, ◌++◌, ap, refl, sym, subst, inl, inr, ℕ, Bool, true, false, List, [], ◌∷◌, length, Result, Err, arith, IsTrue}
 use Rattle.std.proofs.lemmas.Bool.{false≢true}
 use Rattle.std.proofs.lemmas.List.{append-nil}
 use Rattle.disk.specs.declared.side.Side.{Side}
@@ -29,43 +30,43 @@ pub in_one_of : (events : Commit) → 1 ≤ length events → in_one events ≡ 
 in_one_of [] some = absurd (omega (arith, some))
 in_one_of (first ∷ events) some = refl
 
-module _ {D : Type 0} (files : D → Side → File) (moment : D → ℕ) (left_at : D → ℕ → Contents → Type 0) (failures refusals : D → ℕ) (honest : Type 0)
-    (leaves : honest → RestLeaves files moment left_at) (gates_rest : honest → GatesRest files moment left_at) where
+module _ {D : Type 0} (storage : Ghosts D)
+    (leaves : IsTrue storage.is_honest → RestLeaves storage.files storage.moment storage.left_at) (gates_rest : IsTrue storage.is_honest → GatesRest storage.files storage.moment storage.left_at) where
   -- a core that is as it was
-  pub nothing_came : (core : Core D) → (honest → IsKept files core) → (is_halted core ≡ false → core.in_doubt ≡ []) → GoesOn files moment left_at failures refusals honest core core []
+  pub nothing_came : (core : Core D) → (IsTrue storage.is_honest → IsKept storage.files core) → (is_halted core ≡ false → core.in_doubt ≡ []) → GoesOn storage core core []
   nothing_came core kept settled = record {
     went = λ working.
-        of_run files moment left_at failures refusals honest core core core.allowance []
-        (rests files moment left_at failures refusals honest leaves gates_rest (with_allowance core core.allowance) core working kept
+        of_run storage core core core.allowance []
+        (rests storage leaves gates_rest (with_allowance core core.allowance) core working kept
         (record { graph = refl; facts = λ _. refl; environment = λ _. refl; allowance = refl; latest = refl; disk = refl; generation = refl; end = refl; halted = working; settled = settled working }));
     stays = λ halted. (record { graph = refl; facts = λ _. refl; environment = λ _. refl; vault = alike core.vault; in_doubt = refl; latest = refl }, refl);
     settled = settled;
     later = omega arith;
   }
 
-  module _ {T : Type 0} (append : honest → AppendLeaves files moment left_at) (held : honest → HeldLeaves files moment left_at) (old new : Core D) (commit : Commit) (legal : AreLegalFrom (graph old) (facts old) commit)
-      (kept : honest → IsKept files old) (kept_after : honest → IsKept files new) (settled : is_halted old ≡ false → old.in_doubt ≡ []) (moments : honest → is_halted old ≡ false → CrashLeaves files moment left_at old new commit) where
+  module _ {T : Type 0} (append : IsTrue storage.is_honest → AppendLeaves storage.files storage.moment storage.left_at) (held : IsTrue storage.is_honest → HeldLeaves storage.files storage.moment storage.left_at) (old new : Core D) (commit : Commit) (legal : AreLegalFrom (graph old) (facts old) commit)
+      (kept : IsTrue storage.is_honest → IsKept storage.files old) (kept_after : IsTrue storage.is_honest → IsKept storage.files new) (settled : is_halted old ≡ false → old.in_doubt ≡ []) (moments : IsTrue storage.is_honest → is_halted old ≡ false → CrashLeaves storage.files storage.moment storage.left_at old new commit) where
     -- puts that were committed
-    pub commit_came : TakenInTurn → (result : Result T CoreError) → TakesPuts old new commit → new.in_doubt ≡ [] → Halts failures refusals old new result → GoesOn files moment left_at failures refusals honest old new (commit ∷ [])
+    pub commit_came : TakenInTurn → (result : Result T CoreError) → TakesPuts old new commit → new.in_doubt ≡ [] → Halts storage.failures storage.refusals old new result → GoesOn storage old new (commit ∷ [])
     commit_came law result takes none halts =
         let adds = law old.machine commit new.machine takes.takes in
         let sets : facts new ≡ with_facts (facts old) (stated.facts commit) = λ i fact. adds.all fact i in
         let given : environment new ≡ with_facts (environment old) (stated.environment commit) = λ i fact. adds.given fact i in
         let one : (commit ++ []) ++ new.in_doubt ≡ commit = ap (λ (events : List Event). (commit ++ []) ++ events) none ∙ append-nil (commit ++ []) ∙ append-nil commit in
-        let crash : honest → LeavesOnly moment left_at old.vault.disk new.vault.disk (StandsForBeginning (graph old) (environment old) (facts old) [] (commit ∷ [])) =
-        λ on. begins files moment left_at failures refusals honest append old new commit on (moments on takes.working.0)
+        let crash : IsTrue storage.is_honest → LeavesOnly storage.moment storage.left_at old.vault.disk new.vault.disk (StandsForBeginning (graph old) (environment old) (facts old) [] (commit ∷ [])) =
+        λ on. begins storage append old new commit on (moments on takes.working.0)
         in
         record {
           went = λ working. record {
             legal = subst (λ (events : List Event). AreLegalFrom (graph old) (facts old) events) (sym one) legal;
             graph = adds.graph;
-            facts = λ fact. adds.all fact ∙ ap (λ (X : Facts). X fact) (sym (one_behind files moment left_at failures refusals honest (facts old) commit));
-            environment = λ fact. adds.given fact ∙ ap (λ (E : Facts). E fact) (sym (given_behind files moment left_at failures refusals honest (environment old) commit));
+            facts = λ fact. adds.all fact ∙ ap (λ (X : Facts). X fact) (sym (one_behind storage (facts old) commit));
+            environment = λ fact. adds.given fact ∙ ap (λ (E : Facts). E fact) (sym (given_behind storage (environment old) commit));
             generation = λ _. takes.generation;
             end = λ _. with_record new.vault.journal.end old.vault.journal.end (commit_length commit) takes.moved;
             crashes = λ on.
-                subst (λ (events : List Event). LeavesOnly moment left_at old.vault.disk new.vault.disk (StandsForBeginning (graph old) (environment old) (facts old) [] (commit ∷ in_one events))) (sym none) (crash on);
-            acknowledged = acknowledged_all files moment left_at failures refusals honest held old new commit takes.working.1 adds.graph sets given kept_after crash;
+                subst (λ (events : List Event). LeavesOnly storage.moment storage.left_at old.vault.disk new.vault.disk (StandsForBeginning (graph old) (environment old) (facts old) [] (commit ∷ in_one events))) (sym none) (crash on);
+            acknowledged = acknowledged_all storage held old new commit takes.working.1 adds.graph sets given kept_after crash;
             gates = λ on has. (moments on working).gates has;
             halts = (λ halted. elim (halts.halts.0 halted) [ inl before ↦ absurd (false≢true (sym working ∙ before)) | inr erred ↦ erred ], λ erred. halts.halts.1 (inr erred));
           };
@@ -75,7 +76,7 @@ module _ {D : Type 0} (files : D → Side → File) (moment : D → ℕ) (left_a
         }
 
     -- puts that were refused
-    pub commit_refused : (error : CoreError) → 1 ≤ length commit → IsUnchanged old new → AreInDoubt {T = T} old new commit (Err error) → Halts {T = T} failures refusals old new (Err error) → GoesOn files moment left_at failures refusals honest old new []
+    pub commit_refused : (error : CoreError) → 1 ≤ length commit → IsUnchanged old new → AreInDoubt {T = T} old new commit (Err error) → Halts {T = T} storage.failures storage.refusals old new (Err error) → GoesOn storage old new []
     commit_refused error some same doubt halts = record { went = λ working. at working (is_halted new) refl; stays = λ halted. (still halted, refl); settled = λ goes. by_old goes (is_halted old) refl; later = halts.disk.later }
       where
         still : is_halted old ≡ true → KeepsStore old new
@@ -88,19 +89,19 @@ module _ {D : Type 0} (files : D → Side → File) (moment : D → ℕ) (left_a
         by_old goes false working = (halts.same (goes ∙ sym working)).1 ∙ settled working
         by_old goes true halted = absurd (false≢true (sym goes ∙ halts.halts.1 (inl halted)))
 
-        at : is_halted old ≡ false → (b : Bool) → is_halted new ≡ b → Went files moment left_at failures refusals honest old new []
+        at : is_halted old ≡ false → (b : Bool) → is_halted new ≡ b → Went storage old new []
         at working false goes =
             let kept_so = halts.same (goes ∙ sym working) in
-            of_run files moment left_at failures refusals honest old new new.allowance []
-            (rests files moment left_at failures refusals honest leaves gates_rest (with_allowance old new.allowance) new working (λ on. record { holds = (kept on).holds; left = (kept on).left })
+            of_run storage old new new.allowance []
+            (rests storage leaves gates_rest (with_allowance old new.allowance) new working (λ on. record { holds = (kept on).holds; left = (kept on).left })
             (record { graph = same.stays.graph; facts = same.stays.facts; environment = same.stays.environment; allowance = refl; latest = same.stays.latest; disk = kept_so.0.disk; generation = kept_so.0.generation; end = kept_so.0.end; halted = goes; settled = kept_so.1 ∙ settled working }))
         at working true stops =
             let in_doubt : new.in_doubt ≡ commit = doubt working stops in
             let pending : in_one new.in_doubt ≡ commit ∷ [] = ap in_one in_doubt ∙ in_one_of commit some in
-            let erred : HasErred failures refusals old.vault.disk new.vault.disk = elim (halts.halts.0 stops) [ inl before ↦ absurd (false≢true (sym working ∙ before)) | inr it ↦ it ] in
-            let crash : honest → LeavesOnly moment left_at old.vault.disk new.vault.disk (StandsForBeginning (graph old) (environment old) (facts old) [] (in_one new.in_doubt)) = λ on.
-            subst (λ (commits : List Commit). LeavesOnly moment left_at old.vault.disk new.vault.disk (StandsForBeginning (graph old) (environment old) (facts old) [] commits)) (sym pending)
-            (begins files moment left_at failures refusals honest append old new commit on (moments on working))
+            let erred : HasErred storage.failures storage.refusals old.vault.disk new.vault.disk = elim (halts.halts.0 stops) [ inl before ↦ absurd (false≢true (sym working ∙ before)) | inr it ↦ it ] in
+            let crash : IsTrue storage.is_honest → LeavesOnly storage.moment storage.left_at old.vault.disk new.vault.disk (StandsForBeginning (graph old) (environment old) (facts old) [] (in_one new.in_doubt)) = λ on.
+            subst (λ (commits : List Commit). LeavesOnly storage.moment storage.left_at old.vault.disk new.vault.disk (StandsForBeginning (graph old) (environment old) (facts old) [] commits)) (sym pending)
+            (begins storage append old new commit on (moments on working))
             in
             record {
               legal = subst (λ (events : List Event). AreLegalFrom (graph old) (facts old) events) (sym in_doubt) legal;

@@ -1,5 +1,6 @@
 -- Runs, one after another.
-use Rattle.std.proofs.Common.{◌≤◌, ◌≡◌, ◌∙◌, ◌+◌, ◌++◌, ap, length, sym, subst, ℕ, false, List, [], arith}
+use Rattle.disk.specs.declared.storage.Disk.{Ghosts}
+use Rattle.std.proofs.Common.{◌≤◌, ◌≡◌, ◌∙◌, ◌+◌, ◌++◌, ap, length, sym, subst, ℕ, false, List, [], arith, IsTrue}
 use Rattle.std.proofs.lemmas.Bool.{false≢true}
 use Rattle.std.proofs.lemmas.List.{append_assoc, append-nil, length-append}
 use Rattle.std.specs.List.{AllByRecursion}
@@ -55,12 +56,12 @@ both_spent new mid begun first second both all one two = omega (arith, all, one,
 both_within : (mid begun first second both doubt : ℕ) → both ≡ first + second → mid + first ≡ begun → second + doubt ≤ mid → both + doubt ≤ begun
 both_within mid begun first second both doubt all one two = omega (arith, all, one, two)
 
-module _ {D : Type 0} (files : D → Side → File) (moment : D → ℕ) (left_at : D → ℕ → Contents → Type 0) (failures refusals : D → ℕ) (honest : Type 0) (both : AmongBoth) where
+module _ {D : Type 0} (storage : Ghosts D) (both : AmongBoth) where
   -- a run after another one, of which nothing is in doubt
-  pub since_joined : (honest → GatesStay files moment left_at) → (begun : Begun) (left : ℕ → Contents → Type 0) (mid new : Core D) (first second : List Commit)
+  pub since_joined : (IsTrue storage.is_honest → GatesStay storage.files storage.moment storage.left_at) → (begun : Begun) (left : ℕ → Contents → Type 0) (mid new : Core D) (first second : List Commit)
       → is_halted mid ≡ false → mid.in_doubt ≡ []
-      → RunsSince moment left_at failures refusals honest begun left mid first → Runs files moment left_at failures refusals honest mid new second
-      → RunsSince moment left_at failures refusals honest begun left new (first ++ second)
+      → RunsSince storage.moment storage.left_at storage.failures storage.refusals (IsTrue storage.is_honest) begun left mid first → Runs storage mid new second
+      → RunsSince storage.moment storage.left_at storage.failures storage.refusals (IsTrue storage.is_honest) begun left new (first ++ second)
   since_joined gates_stay begun left mid new first second working settled one two =
       let all_of_first = subst (λ (events : List Event). events_of first ++ events ≡ events_of first) (sym settled) (append-nil (events_of first)) in
       let all_commits = subst (λ (events : List Event). first ++ in_one events ≡ first) (sym settled) (append-nil first) in
@@ -72,7 +73,7 @@ module _ {D : Type 0} (files : D → Side → File) (moment : D → ℕ) (left_a
       in
       let pending : (first ++ second) ++ in_one new.in_doubt ≡ first ++ (second ++ in_one new.in_doubt) = append_assoc first second (in_one new.in_doubt) in
       let counted : length (events_of (first ++ second)) ≡ length (events_of first) + length (events_of second) = ap length (events_joined first second) ∙ length-append (events_of first) (events_of second) in
-      let calm : HasErredFrom begun.failures (failures mid.vault.disk) begun.refusals (refusals mid.vault.disk) → ⊥ = λ erred. false≢true (sym working ∙ one.halts.1 erred) in
+      let calm : HasErredFrom begun.failures (storage.failures mid.vault.disk) begun.refusals (storage.refusals mid.vault.disk) → ⊥ = λ erred. false≢true (sym working ∙ one.halts.1 erred) in
       record {
         are_ends = subst (λ (events : List Event). AllByRecursion IsEnd events) (sym order) (ends_joined (events_of first) (events_of second ++ new.in_doubt) first_are two.are_ends);
         legal =
@@ -88,8 +89,8 @@ module _ {D : Type 0} (files : D → Side → File) (moment : D → ℕ) (left_a
         generation = λ goes. two.generation goes ∙ one.generation working;
         end = λ goes. ends_behind new.vault.journal.end mid.vault.journal.end begun.end (records_length first) (records_length second) (records_length (first ++ second)) (two.end goes) (one.end working) (records_joined first second);
         crashes = λ on.
-            subst (λ (commits : List Commit). LeavesSince moment left_at begun.moment left new.vault.disk (StandsForBeginning begun.graph begun.environment begun.facts [] commits)) (sym pending)
-            (joined_since moment left_at begun.moment left mid.vault.disk new.vault.disk
+            subst (λ (commits : List Commit). LeavesSince storage.moment storage.left_at begun.moment left new.vault.disk (StandsForBeginning begun.graph begun.environment begun.facts [] commits)) (sym pending)
+            (joined_since storage.moment storage.left_at begun.moment left mid.vault.disk new.vault.disk
             (StandsForBeginning begun.graph begun.environment begun.facts [] (first ++ in_one mid.in_doubt))
             (StandsForBeginning (graph mid) (environment mid) (facts mid) [] (second ++ in_one new.in_doubt))
             (StandsForBeginning begun.graph begun.environment begun.facts [] (first ++ (second ++ in_one new.in_doubt)))
@@ -102,19 +103,19 @@ module _ {D : Type 0} (files : D → Side → File) (moment : D → ℕ) (left_a
             (λ made. environment_stays both begun.environment first made first_are) stands));
         acknowledged = λ on.
             let second_leaves = two.crashes on in
-            ends_acknowledged begun.graph begun.environment begun.facts (left_at mid.vault.disk) (left_at new.vault.disk) (moment mid.vault.disk) (moment new.vault.disk) second_leaves.later (λ t contents early was. (second_leaves.stays t contents early).0 was)
+            ends_acknowledged begun.graph begun.environment begun.facts (storage.left_at mid.vault.disk) (storage.left_at new.vault.disk) (storage.moment mid.vault.disk) (storage.moment new.vault.disk) second_leaves.later (λ t contents early was. (second_leaves.stays t contents early).0 was)
             begun.moment [] first second (in_one new.in_doubt) (one.crashes on).later
-            (subst (λ (doubt : List Event). AcknowledgesFrom begun.graph begun.environment begun.facts (left_at mid.vault.disk) (moment mid.vault.disk) begun.moment [] first (in_one doubt)) settled (one.acknowledged on))
-            (subst (λ (made : List Commit). AcknowledgesFrom begun.graph begun.environment begun.facts (left_at new.vault.disk) (moment new.vault.disk) (moment mid.vault.disk) made second (in_one new.in_doubt)) (append-nil first)
-            (carried both begun.graph (graph mid) begun.environment (environment mid) begun.facts (facts mid) first one.graph (given ∙ sym (given_by_ends begun.environment (events_of first) first_are)) sets (left_at new.vault.disk) (moment new.vault.disk) (moment mid.vault.disk) [] second (in_one new.in_doubt) (two.acknowledged on)));
+            (subst (λ (doubt : List Event). AcknowledgesFrom begun.graph begun.environment begun.facts (storage.left_at mid.vault.disk) (storage.moment mid.vault.disk) begun.moment [] first (in_one doubt)) settled (one.acknowledged on))
+            (subst (λ (made : List Commit). AcknowledgesFrom begun.graph begun.environment begun.facts (storage.left_at new.vault.disk) (storage.moment new.vault.disk) (storage.moment mid.vault.disk) made second (in_one new.in_doubt)) (append-nil first)
+            (carried both begun.graph (graph mid) begun.environment (environment mid) begun.facts (facts mid) first one.graph (given ∙ sym (given_by_ends begun.environment (events_of first) first_are)) sets (storage.left_at new.vault.disk) (storage.moment new.vault.disk) (storage.moment mid.vault.disk) [] second (in_one new.in_doubt) (two.acknowledged on)));
         gates = λ on has.
             let here = one.gates on has in
-            let at_last = leaves_at_last moment left_at begun.moment left mid.vault.disk HasGates here in
-            joined_since moment left_at begun.moment left mid.vault.disk new.vault.disk HasGates HasGates HasGates here
+            let at_last = leaves_at_last storage.moment storage.left_at begun.moment left mid.vault.disk HasGates here in
+            joined_since storage.moment storage.left_at begun.moment left mid.vault.disk new.vault.disk HasGates HasGates HasGates here
             (two.gates on (gates_stay on mid.vault.disk mid.vault.disk at_last)) (λ c so. so) (λ c so. so);
         halts = (
-          λ is. later_erred begun.failures (failures mid.vault.disk) (failures new.vault.disk) begun.refusals (refusals mid.vault.disk) (refusals new.vault.disk) one.later calm (two.halts.0 is),
-          λ erred. two.halts.1 (erred_later begun.failures (failures mid.vault.disk) (failures new.vault.disk) begun.refusals (refusals mid.vault.disk) (refusals new.vault.disk) one.later calm erred),
+          λ is. later_erred begun.failures (storage.failures mid.vault.disk) (storage.failures new.vault.disk) begun.refusals (storage.refusals mid.vault.disk) (storage.refusals new.vault.disk) one.later calm (two.halts.0 is),
+          λ erred. two.halts.1 (erred_later begun.failures (storage.failures mid.vault.disk) (storage.failures new.vault.disk) begun.refusals (storage.refusals mid.vault.disk) (storage.refusals new.vault.disk) one.later calm erred),
         );
         later = omega (arith, one.later, two.later);
         some_in_doubt = λ stops.
@@ -122,9 +123,9 @@ module _ {D : Type 0} (files : D → Side → File) (moment : D → ℕ) (left_a
             (last.0, both_within mid.allowance begun.allowance (length (events_of first)) (length (events_of second)) (length (events_of (first ++ second))) (length new.in_doubt) counted one.spent last.1);
       }
 
-  pub goes_on : (honest → GatesStay files moment left_at) → (old mid new : Core D) → is_halted mid ≡ false → mid.in_doubt ≡ []
-      → RunsOn files moment left_at failures refusals honest old mid → RunsOn files moment left_at failures refusals honest mid new → RunsOn files moment left_at failures refusals honest old new
+  pub goes_on : (IsTrue storage.is_honest → GatesStay storage.files storage.moment storage.left_at) → (old mid new : Core D) → is_halted mid ≡ false → mid.in_doubt ≡ []
+      → RunsOn storage old mid → RunsOn storage mid new → RunsOn storage old new
   goes_on gates_stay old mid new working settled one two = record {
     commits = one.commits ++ two.commits;
-    runs = since_joined gates_stay (begun_by files moment failures refusals old) (left_at old.vault.disk) mid new one.commits two.commits working settled one.runs two.runs;
+    runs = since_joined gates_stay (begun_by storage.files storage.moment storage.failures storage.refusals old) (storage.left_at old.vault.disk) mid new one.commits two.commits working settled one.runs two.runs;
   }

@@ -1,5 +1,6 @@
 -- Several puts of the environment that are committed as one: after room was made, and what is promised of them.
-use Rattle.std.proofs.Common.{◌≡◌, ◌∙◌, ◌≤◌, ◌+◌, ap, sym, refl, subst, inl, inr, ℕ, zero, suc, true, false, List, [], ◌∷◌, length, take, Result, Ok, Err, IfErr, OnOk, OnErr, arith}
+use Rattle.disk.specs.declared.storage.Disk.{Ghosts}
+use Rattle.std.proofs.Common.{◌≡◌, ◌∙◌, ◌≤◌, ◌+◌, ap, sym, refl, subst, inl, inr, ℕ, zero, suc, true, false, List, [], ◌∷◌, length, take, Result, Ok, Err, IfErr, OnOk, OnErr, arith, IsTrue}
 use Rattle.std.proofs.lemmas.Bool.{false≢true}
 use Rattle.std.specs.List.{AllByRecursion}
 use Rattle.disk.specs.declared.side.Side.{Side}
@@ -67,7 +68,7 @@ pub taken_some : {D : Type 0} (old new : Core D) (commit : Commit) → 1 ≤ len
 taken_some old new [] some it = absurd (omega (arith, some))
 taken_some old new (first ∷ commit) some it = it
 
-module _ {D : Type 0} (files : D → Side → File) (moment : D → ℕ) (left_at : D → ℕ → Contents → Type 0) (failures refusals : D → ℕ) (honest : Type 0) (old mid : Core D) (room : GivesRoom old mid) where
+module _ {D : Type 0} (storage : Ghosts D) (old mid : Core D) (room : GivesRoom old mid) where
   taken_before : (new : Core D) (commit : Commit) → 1 ≤ length commit → TakesPuts mid new commit → TakesPuts old new commit
   taken_before new commit some it = record {
     takes = takes_in_turn old mid room new.machine commit some it.takes;
@@ -89,20 +90,20 @@ module _ {D : Type 0} (files : D → Side → File) (moment : D → ℕ) (left_a
   refused_before commit (Store Exists) it = absurd it
 
   pub tries : (new : Core D) (commit : Commit) (result : Result ℕ CoreError) → 1 ≤ length commit → OnOk result (TakesPuts mid new commit) → OnErr result (IsUnchanged mid new) → IfErr result (RefusesPuts mid commit) → TellsFullAll mid commit result
-      → Halts failures refusals mid new result → AreInDoubt mid new commit result → (honest → CrashLeaves files moment left_at mid new commit) → TriesPuts files moment left_at failures refusals honest old new commit result
+      → Halts storage.failures storage.refusals mid new result → AreInDoubt mid new commit result → (IsTrue storage.is_honest → CrashLeaves storage.files storage.moment storage.left_at mid new commit) → TriesPuts storage old new commit result
   tries new commit result some ok err refused full halting doubt moments = record {
     takes = on_ok result (TakesPuts mid new commit) (TakesAny old new commit) (λ it. taken_any old new commit some (taken_before new commit some it)) ok;
-    unchanged = on_err result (IsUnchanged mid new) (IsUnchanged old new) (unchanged files moment left_at failures refusals honest old mid room new) err;
+    unchanged = on_err result (IsUnchanged mid new) (IsUnchanged old new) (unchanged storage old mid room new) err;
     refused = if_err result (RefusesPuts mid commit) (RefusesPuts old commit) (refused_before commit) refused;
     full = λ working more long. full more (too_long_then old mid room commit long);
     doubt = on_err result (is_halted mid ≡ false → is_halted new ≡ true → new.in_doubt ≡ commit) (is_halted old ≡ false → is_halted new ≡ true → new.in_doubt ≡ commit) (λ so working. so (halted old mid room ∙ working)) doubt;
-    moments = λ on working. moments_before old mid room files moment left_at new commit (moments on);
-    halts = halts_before old mid room failures refusals new result halting;
+    moments = λ on working. moments_before old mid room storage.files storage.moment storage.left_at new commit (moments on);
+    halts = halts_before old mid room storage.failures storage.refusals new result halting;
   }
 
   -- there was no memory for the room
-  pub no_room_for : (commit : Commit) → 1 ≤ length commit → is_halted old ≡ false → (honest → HeldLeaves files moment left_at) → (honest → GatesRest files moment left_at) → (honest → IsKept files old)
-      → TriesPuts files moment left_at failures refusals honest old mid commit (Err (Store NoMemory))
+  pub no_room_for : (commit : Commit) → 1 ≤ length commit → is_halted old ≡ false → (IsTrue storage.is_honest → HeldLeaves storage.files storage.moment storage.left_at) → (IsTrue storage.is_honest → GatesRest storage.files storage.moment storage.left_at) → (IsTrue storage.is_honest → IsKept storage.files old)
+      → TriesPuts storage old mid commit (Err (Store NoMemory))
   no_room_for commit some working held gates kept = record {
     takes = tt;
     unchanged = record {
@@ -112,18 +113,18 @@ module _ {D : Type 0} (files : D → Side → File) (moment : D → ℕ) (left_a
     refused = (working, some);
     full = λ _ more long. inr refl;
     doubt = λ _ stops. absurd (false≢true (sym working ∙ sym (halted old mid room) ∙ stops));
-    moments = λ on _. rests_before files moment left_at old mid commit (held on) (gates on) (kept on) working room.vault;
-    halts = unhalted {T = ℕ} failures refusals old mid (Store NoMemory) working room.vault room.in_doubt (memory_halts files moment left_at failures refusals honest old mid room) (memory_device files moment left_at failures refusals honest old mid room);
+    moments = λ on _. rests_before storage.files storage.moment storage.left_at old mid commit (held on) (gates on) (kept on) working room.vault;
+    halts = unhalted {T = ℕ} storage.failures storage.refusals old mid (Store NoMemory) working room.vault room.in_doubt (memory_halts storage old mid room) (memory_device storage old mid room);
   }
 
 -- ---- nothing is tried
 
-module _ {D : Type 0} (files : D → Side → File) (moment : D → ℕ) (left_at : D → ℕ → Contents → Type 0) (failures refusals : D → ℕ) (honest : Type 0) (core : Core D) where
+module _ {D : Type 0} (storage : Ghosts D) (core : Core D) where
   same : IsUnchanged core core
   same = record { stays = record { graph = refl; facts = λ _. refl; environment = λ _. refl; allowance = refl; latest = refl }; states = λ _. refl }
 
   -- by a halted core
-  pub halted_tries : is_halted core ≡ true → TriesPuts files moment left_at failures refusals honest core core [] (Err (Store Halted))
+  pub halted_tries : is_halted core ≡ true → TriesPuts storage core core [] (Err (Store Halted))
   halted_tries stops = record {
     takes = tt;
     unchanged = same;
@@ -131,10 +132,10 @@ module _ {D : Type 0} (files : D → Side → File) (moment : D → ℕ) (left_a
     full = λ working. absurd (false≢true (sym working ∙ stops));
     doubt = λ working. absurd (false≢true (sym working ∙ stops));
     moments = λ on working. absurd (false≢true (sym working ∙ stops));
-    halts = halted_still {T = ℕ} failures refusals core core stops refl refl;
+    halts = halted_still {T = ℕ} storage.failures storage.refusals core core stops refl refl;
   }
 
-  pub halted_goes_on : is_halted core ≡ true → GoesOn files moment left_at failures refusals honest core core []
+  pub halted_goes_on : is_halted core ≡ true → GoesOn storage core core []
   halted_goes_on stops = record {
     went = λ working. absurd (false≢true (sym working ∙ stops));
     stays = λ _. (record { graph = refl; facts = λ _. refl; environment = λ _. refl; vault = alike core.vault; in_doubt = refl; latest = refl }, refl);
@@ -143,14 +144,14 @@ module _ {D : Type 0} (files : D → Side → File) (moment : D → ℕ) (left_a
   }
 
   -- or because none of the puts comes
-  pub nothing_tried : is_halted core ≡ false → core.in_doubt ≡ [] → (honest → HeldLeaves files moment left_at) → (honest → GatesRest files moment left_at) → (honest → IsKept files core) → TriesPuts files moment left_at failures refusals honest core core [] (Ok 0)
+  pub nothing_tried : is_halted core ≡ false → core.in_doubt ≡ [] → (IsTrue storage.is_honest → HeldLeaves storage.files storage.moment storage.left_at) → (IsTrue storage.is_honest → GatesRest storage.files storage.moment storage.left_at) → (IsTrue storage.is_honest → IsKept storage.files core) → TriesPuts storage core core [] (Ok 0)
   nothing_tried working settled held gates kept = record {
     takes = (working, refl);
     unchanged = tt;
     refused = tt;
     full = λ _ more. absurd (omega (arith, more));
     doubt = tt;
-    moments = λ on _. rests_before files moment left_at core core [] (held on) (gates on) (kept on) working refl;
+    moments = λ on _. rests_before storage.files storage.moment storage.left_at core core [] (held on) (gates on) (kept on) working refl;
     halts = record {
       halts = (λ is. inl is, λ both. elim both [ inl is ↦ is | inr erred ↦ absurd (calm erred) ]);
       halted = (λ is. absurd (never Halted is), λ is. absurd (false≢true (sym working ∙ is)));
@@ -160,7 +161,7 @@ module _ {D : Type 0} (files : D → Side → File) (moment : D → ℕ) (left_a
     };
   }
     where
-      calm : HasErred failures refusals core.vault.disk core.vault.disk → ⊥
+      calm : HasErred storage.failures storage.refusals core.vault.disk core.vault.disk → ⊥
       calm (inl grew) = omega (arith, grew)
       calm (inr changed) = changed refl
 
@@ -169,12 +170,12 @@ module _ {D : Type 0} (files : D → Side → File) (moment : D → ℕ) (left_a
 
 -- ---- how the core goes on
 
-module _ {D : Type 0} (files : D → Side → File) (moment : D → ℕ) (left_at : D → ℕ → Contents → Type 0) (failures refusals : D → ℕ) (honest : Type 0) where
-  pub puts_go_on : TakenInTurn → (honest → AppendLeaves files moment left_at) → (honest → HeldLeaves files moment left_at) → (honest → RestLeaves files moment left_at) → (honest → GatesRest files moment left_at)
-      → (old new : Core D) (commit : Commit) (result : Result ℕ CoreError) → 1 ≤ length commit → AreLegalFrom (graph old) (facts old) commit → (is_halted old ≡ false → old.in_doubt ≡ []) → (honest → IsKept files old) → (honest → IsKept files new)
-      → TriesPuts files moment left_at failures refusals honest old new commit result → PutsGoOn files moment left_at failures refusals honest old new commit result
+module _ {D : Type 0} (storage : Ghosts D) where
+  pub puts_go_on : TakenInTurn → (IsTrue storage.is_honest → AppendLeaves storage.files storage.moment storage.left_at) → (IsTrue storage.is_honest → HeldLeaves storage.files storage.moment storage.left_at) → (IsTrue storage.is_honest → RestLeaves storage.files storage.moment storage.left_at) → (IsTrue storage.is_honest → GatesRest storage.files storage.moment storage.left_at)
+      → (old new : Core D) (commit : Commit) (result : Result ℕ CoreError) → 1 ≤ length commit → AreLegalFrom (graph old) (facts old) commit → (is_halted old ≡ false → old.in_doubt ≡ []) → (IsTrue storage.is_honest → IsKept storage.files old) → (IsTrue storage.is_honest → IsKept storage.files new)
+      → TriesPuts storage old new commit result → PutsGoOn storage old new commit result
   puts_go_on law append held rest_leaves gates_rest old new commit (Ok count) some legal settled kept kept_after it =
-      subst (λ (commits : List Commit). GoesOn files moment left_at failures refusals honest old new commits) (sym (in_one_of commit some))
-      (commit_came files moment left_at failures refusals honest rest_leaves gates_rest {T = ℕ} append held old new commit legal kept kept_after settled it.moments law (Ok count) (taken_some old new commit some it.takes) it.halts.settled it.halts)
+      subst (λ (commits : List Commit). GoesOn storage old new commits) (sym (in_one_of commit some))
+      (commit_came storage rest_leaves gates_rest {T = ℕ} append held old new commit legal kept kept_after settled it.moments law (Ok count) (taken_some old new commit some it.takes) it.halts.settled it.halts)
   puts_go_on law append held rest_leaves gates_rest old new commit (Err error) some legal settled kept kept_after it =
-      commit_refused files moment left_at failures refusals honest rest_leaves gates_rest {T = ℕ} append held old new commit legal kept kept_after settled it.moments error some it.unchanged it.doubt it.halts
+      commit_refused storage rest_leaves gates_rest {T = ℕ} append held old new commit legal kept kept_after settled it.moments error some it.unchanged it.doubt it.halts

@@ -1,5 +1,6 @@
 -- Several ends that are committed as one: after room was made, and as a run by itself.
-use Rattle.std.proofs.Common.{◌≡◌, ◌∙◌, ◌<◌, ◌≤◌, ◌+◌, ◌++◌, ◌||◌, ap, sym, refl, subst, inl, inr, ℕ, Bool, true, false, List, [], ◌∷◌, length, Result, Ok, Err, IfOk, IfErr, OnOk, OnErr, Some, arith}
+use Rattle.disk.specs.declared.storage.Disk.{Ghosts}
+use Rattle.std.proofs.Common.{◌≡◌, ◌∙◌, ◌<◌, ◌≤◌, ◌+◌, ◌++◌, ◌||◌, ap, sym, refl, subst, inl, inr, ℕ, Bool, true, false, List, [], ◌∷◌, length, Result, Ok, Err, IfOk, IfErr, OnOk, OnErr, Some, arith, IsTrue}
 use Rattle.std.proofs.lemmas.Bool.{false≢true}
 use Rattle.std.proofs.lemmas.List.{append-nil}
 use Rattle.std.specs.List.{AllByRecursion}
@@ -238,14 +239,14 @@ halts_first failures refusals old new (Store Exists) it vault doubt = absurd it
 
 -- ---- a run by itself
 
-module _ {D : Type 0} (files : D → Side → File) (moment : D → ℕ) (left_at : D → ℕ → Contents → Type 0) (failures refusals : D → ℕ) (honest : Type 0) where
-  -- at each moment of one commit a crash leaves it, or nothing of it
-  pub begins : (honest → AppendLeaves files moment left_at) → (old new : Core D) (commit : Commit) → honest → CrashLeaves files moment left_at old new commit
-      → LeavesOnly moment left_at old.vault.disk new.vault.disk (StandsForBeginning (graph old) (environment old) (facts old) [] (commit ∷ []))
+module _ {D : Type 0} (storage : Ghosts D) where
+  -- at each storage.moment of one commit a crash leaves it, or nothing of it
+  pub begins : (IsTrue storage.is_honest → AppendLeaves storage.files storage.moment storage.left_at) → (old new : Core D) (commit : Commit) → IsTrue storage.is_honest → CrashLeaves storage.files storage.moment storage.left_at old new commit
+      → LeavesOnly storage.moment storage.left_at old.vault.disk new.vault.disk (StandsForBeginning (graph old) (environment old) (facts old) [] (commit ∷ []))
   begins leaves old new commit on it =
       leaves on old.vault new.vault (graph old) (environment old) (facts old) [] commit
-      (subst (λ (E : Facts). LeavesOnly moment left_at old.vault.disk new.vault.disk (StandsBeforeOrAfter (graph old) E (with_facts (facts old) []) commit)) (sym (with_nothing (environment old)))
-      (subst (λ (X : Facts). LeavesOnly moment left_at old.vault.disk new.vault.disk (StandsBeforeOrAfter (graph old) (environment old) X commit)) (sym (with_nothing (facts old))) it.facts))
+      (subst (λ (E : Facts). LeavesOnly storage.moment storage.left_at old.vault.disk new.vault.disk (StandsBeforeOrAfter (graph old) E (with_facts (facts old) []) commit)) (sym (with_nothing (environment old)))
+      (subst (λ (X : Facts). LeavesOnly storage.moment storage.left_at old.vault.disk new.vault.disk (StandsBeforeOrAfter (graph old) (environment old) X commit)) (sym (with_nothing (facts old))) it.facts))
 
   -- the facts after a commit that was taken
   module _ (law : TakenInTurn) (old new : Core D) (tasks : List Inst) (commit : Commit) (takes : TakesAll old new tasks commit) where
@@ -269,11 +270,11 @@ module _ {D : Type 0} (files : D → Side → File) (moment : D → ℕ) (left_a
   given_behind E commit = ap (λ (events : List Event). with_facts E (stated.environment events)) (append-nil commit)
 
   -- once it was made, it is acknowledged
-  pub acknowledged_all : (honest → HeldLeaves files moment left_at) → (old new : Core D) (commit : Commit) → is_halted new ≡ false → graph new ≡ graph old → facts new ≡ with_facts (facts old) (stated.facts commit)
-      → environment new ≡ with_facts (environment old) (stated.environment commit) → (honest → IsKept files new) → (honest → LeavesOnly moment left_at old.vault.disk new.vault.disk (StandsForBeginning (graph old) (environment old) (facts old) [] (commit ∷ [])))
-      → honest → AcknowledgesFrom (graph old) (environment old) (facts old) (left_at new.vault.disk) (moment new.vault.disk) (moment old.vault.disk) [] (commit ∷ []) (in_one new.in_doubt)
+  pub acknowledged_all : (IsTrue storage.is_honest → HeldLeaves storage.files storage.moment storage.left_at) → (old new : Core D) (commit : Commit) → is_halted new ≡ false → graph new ≡ graph old → facts new ≡ with_facts (facts old) (stated.facts commit)
+      → environment new ≡ with_facts (environment old) (stated.environment commit) → (IsTrue storage.is_honest → IsKept storage.files new) → (IsTrue storage.is_honest → LeavesOnly storage.moment storage.left_at old.vault.disk new.vault.disk (StandsForBeginning (graph old) (environment old) (facts old) [] (commit ∷ [])))
+      → IsTrue storage.is_honest → AcknowledgesFrom (graph old) (environment old) (facts old) (storage.left_at new.vault.disk) (storage.moment new.vault.disk) (storage.moment old.vault.disk) [] (commit ∷ []) (in_one new.in_doubt)
   acknowledged_all held old new commit working same sets given kept crash on = (
-    moment new.vault.disk,
+    storage.moment new.vault.disk,
     (crash on).later,
     omega arith,
     λ t contents after before was. (crash on).each t contents after before was,
@@ -292,14 +293,14 @@ module _ {D : Type 0} (files : D → Side → File) (moment : D → ℕ) (left_a
   )
 
   -- a commit that was taken
-  ended : (law : TakenInTurn) → (honest → AppendLeaves files moment left_at) → (honest → HeldLeaves files moment left_at) → (old new : Core D) (tasks : List Inst) (commit : Commit) (answer : Ended) → is_halted old ≡ false
-      → AllByRecursion IsEnd commit → AreLegalFrom (graph old) (facts old) commit → TakesAll old new tasks commit → new.in_doubt ≡ [] → (honest → CrashLeaves files moment left_at old new commit) → (honest → IsKept files new)
-      → Halts {T = Ended} failures refusals old new (Ok answer) → Runs files moment left_at failures refusals honest old new (commit ∷ [])
+  ended : (law : TakenInTurn) → (IsTrue storage.is_honest → AppendLeaves storage.files storage.moment storage.left_at) → (IsTrue storage.is_honest → HeldLeaves storage.files storage.moment storage.left_at) → (old new : Core D) (tasks : List Inst) (commit : Commit) (answer : Ended) → is_halted old ≡ false
+      → AllByRecursion IsEnd commit → AreLegalFrom (graph old) (facts old) commit → TakesAll old new tasks commit → new.in_doubt ≡ [] → (IsTrue storage.is_honest → CrashLeaves storage.files storage.moment storage.left_at old new commit) → (IsTrue storage.is_honest → IsKept storage.files new)
+      → Halts {T = Ended} storage.failures storage.refusals old new (Ok answer) → Runs storage old new (commit ∷ [])
   ended law leaves held old new tasks commit answer working are legal takes settled moments kept halts =
       let one : (commit ++ []) ++ new.in_doubt ≡ commit = ap (λ (events : List Event). (commit ++ []) ++ events) settled ∙ append-nil (commit ++ []) ∙ append-nil commit in
       let sets : facts new ≡ with_facts (facts old) (stated.facts commit) = λ i fact. facts_after law old new tasks commit takes fact i in
       let given : environment new ≡ with_facts (environment old) (stated.environment commit) = λ i fact. environment_after law old new tasks commit takes fact i in
-      let crash : honest → LeavesOnly moment left_at old.vault.disk new.vault.disk (StandsForBeginning (graph old) (environment old) (facts old) [] (commit ∷ [])) = λ on. begins leaves old new commit on (moments on) in
+      let crash : IsTrue storage.is_honest → LeavesOnly storage.moment storage.left_at old.vault.disk new.vault.disk (StandsForBeginning (graph old) (environment old) (facts old) [] (commit ∷ [])) = λ on. begins leaves old new commit on (moments on) in
       record {
         are_ends = subst (λ (events : List Event). AllByRecursion IsEnd events) (sym one) are;
         legal = subst (λ (events : List Event). AreLegalFrom (graph old) (facts old) events) (sym one) legal;
@@ -310,7 +311,7 @@ module _ {D : Type 0} (files : D → Side → File) (moment : D → ℕ) (left_a
         latest = takes.latest;
         generation = λ _. takes.generation;
         end = λ _. with_record new.vault.journal.end old.vault.journal.end (commit_length commit) takes.moved;
-        crashes = λ on. subst (λ (events : List Event). LeavesOnly moment left_at old.vault.disk new.vault.disk (StandsForBeginning (graph old) (environment old) (facts old) [] (commit ∷ in_one events))) (sym settled) (crash on);
+        crashes = λ on. subst (λ (events : List Event). LeavesOnly storage.moment storage.left_at old.vault.disk new.vault.disk (StandsForBeginning (graph old) (environment old) (facts old) [] (commit ∷ in_one events))) (sym settled) (crash on);
         acknowledged = acknowledged_all held old new commit takes.working.1 (graph_after law old new tasks commit takes) sets given kept crash;
         gates = λ on has. (moments on).gates has;
         halts = (λ is. elim (halts.halts.0 is) [ inl before ↦ absurd (false≢true (sym working ∙ before)) | inr erred ↦ erred ], λ erred. halts.halts.1 (inr erred));
@@ -319,16 +320,16 @@ module _ {D : Type 0} (files : D → Side → File) (moment : D → ℕ) (left_a
       }
 
   -- a commit that is refused
-  refused : (honest → AppendLeaves files moment left_at) → (honest → RestLeaves files moment left_at) → (honest → GatesRest files moment left_at) → (old new : Core D) (tasks : List Inst) (commit : Commit) (error : CoreError)
-      → is_halted old ≡ false → old.in_doubt ≡ [] → length commit ≤ old.allowance → (honest → IsKept files old) → AllByRecursion IsEnd commit → AreLegalFrom (graph old) (facts old) commit → GivesBackAll old new tasks
-      → AreInDoubt {T = Ended} old new commit (Err error) → (is_halted old ≡ false → is_halted new ≡ true → 0 < length commit) → (honest → is_halted old ≡ false → CrashLeaves files moment left_at old new commit)
-      → Halts {T = Ended} failures refusals old new (Err error) → Runs files moment left_at failures refusals honest old new []
+  refused : (IsTrue storage.is_honest → AppendLeaves storage.files storage.moment storage.left_at) → (IsTrue storage.is_honest → RestLeaves storage.files storage.moment storage.left_at) → (IsTrue storage.is_honest → GatesRest storage.files storage.moment storage.left_at) → (old new : Core D) (tasks : List Inst) (commit : Commit) (error : CoreError)
+      → is_halted old ≡ false → old.in_doubt ≡ [] → length commit ≤ old.allowance → (IsTrue storage.is_honest → IsKept storage.files old) → AllByRecursion IsEnd commit → AreLegalFrom (graph old) (facts old) commit → GivesBackAll old new tasks
+      → AreInDoubt {T = Ended} old new commit (Err error) → (is_halted old ≡ false → is_halted new ≡ true → 0 < length commit) → (IsTrue storage.is_honest → is_halted old ≡ false → CrashLeaves storage.files storage.moment storage.left_at old new commit)
+      → Halts {T = Ended} storage.failures storage.refusals old new (Err error) → Runs storage old new []
   refused leaves rest_leaves gates_rest old new tasks commit error working settled allowed kept are legal back tried some moments halts = at (is_halted new) refl
     where
-      at : (b : Bool) → is_halted new ≡ b → Runs files moment left_at failures refusals honest old new []
+      at : (b : Bool) → is_halted new ≡ b → Runs storage old new []
       at false goes =
           let same = halts.same (goes ∙ sym working) in
-          rests files moment left_at failures refusals honest rest_leaves gates_rest old new working kept (record {
+          rests storage rest_leaves gates_rest old new working kept (record {
             graph = back.stays.graph;
             facts = back.stays.facts;
             environment = back.stays.environment;
@@ -344,8 +345,8 @@ module _ {D : Type 0} (files : D → Side → File) (moment : D → ℕ) (left_a
           let doubt : new.in_doubt ≡ commit = tried working stops in
           let more = some working stops in
           let pending : in_one new.in_doubt ≡ commit ∷ [] = ap in_one doubt ∙ in_one_of commit more in
-          let crash : honest → LeavesOnly moment left_at old.vault.disk new.vault.disk (StandsForBeginning (graph old) (environment old) (facts old) [] (in_one new.in_doubt)) = λ on.
-          subst (λ (commits : List Commit). LeavesOnly moment left_at old.vault.disk new.vault.disk (StandsForBeginning (graph old) (environment old) (facts old) [] commits)) (sym pending) (begins leaves old new commit on (moments on working))
+          let crash : IsTrue storage.is_honest → LeavesOnly storage.moment storage.left_at old.vault.disk new.vault.disk (StandsForBeginning (graph old) (environment old) (facts old) [] (in_one new.in_doubt)) = λ on.
+          subst (λ (commits : List Commit). LeavesOnly storage.moment storage.left_at old.vault.disk new.vault.disk (StandsForBeginning (graph old) (environment old) (facts old) [] commits)) (sym pending) (begins leaves old new commit on (moments on working))
           in
           record {
             are_ends = subst (λ (events : List Event). AllByRecursion IsEnd events) (sym doubt) are;
@@ -370,14 +371,14 @@ module _ {D : Type 0} (files : D → Side → File) (moment : D → ℕ) (left_a
           in_one_of (first ∷ events) is = refl
 
   -- a finish of several is a run by itself
-  pub all_run : (law : TakenInTurn) → CutIsOfEnds → (honest → AppendLeaves files moment left_at) → (honest → HeldLeaves files moment left_at) → (honest → RestLeaves files moment left_at) → (honest → GatesRest files moment left_at)
-      → (old new : Core D) (tasks : List Inst) (ends : List Event) (result : Result Ended CoreError) → is_halted old ≡ false → old.in_doubt ≡ [] → AreEndsHere old.machine ends → (honest → IsKept files old) → (honest → IsKept files new)
-      → (it : FinishesAll files moment left_at honest old new tasks ends result) → OnErr result (length it.commit ≤ old.allowance) → OnErr result (GivesBackAll old new tasks) → Halts failures refusals old new result
-      → AllRun files moment left_at failures refusals honest old new ends result
+  pub all_run : (law : TakenInTurn) → CutIsOfEnds → (IsTrue storage.is_honest → AppendLeaves storage.files storage.moment storage.left_at) → (IsTrue storage.is_honest → HeldLeaves storage.files storage.moment storage.left_at) → (IsTrue storage.is_honest → RestLeaves storage.files storage.moment storage.left_at) → (IsTrue storage.is_honest → GatesRest storage.files storage.moment storage.left_at)
+      → (old new : Core D) (tasks : List Inst) (ends : List Event) (result : Result Ended CoreError) → is_halted old ≡ false → old.in_doubt ≡ [] → AreEndsHere old.machine ends → (IsTrue storage.is_honest → IsKept storage.files old) → (IsTrue storage.is_honest → IsKept storage.files new)
+      → (it : FinishesAll storage.files storage.moment storage.left_at (IsTrue storage.is_honest) old new tasks ends result) → OnErr result (length it.commit ≤ old.allowance) → OnErr result (GivesBackAll old new tasks) → Halts storage.failures storage.refusals old new result
+      → AllRun storage old new ends result
   all_run law cuts leaves held rest_leaves gates_rest old new tasks ends (Ok answer) working settled here kept kept_after it allowed back halts =
       let is = it.answered in
       let of_ends = cuts old.machine ends answer here is.together in
-      subst (λ (commit : Commit). Runs files moment left_at failures refusals honest old new (commit ∷ [])) is.commit_is
+      subst (λ (commit : Commit). Runs storage old new (commit ∷ [])) is.commit_is
       (ended law leaves held old new tasks it.commit answer working (subst (λ (events : List Event). AllByRecursion IsEnd events) (sym is.commit_is) (all_end (cut answer ends) (ended_by ends) of_ends.ended))
       (subst (λ (events : List Event). AreLegalFrom (graph old) (facts old) events) (sym is.commit_is) is.together.legal) is.takes halts.settled (λ on. it.moments on working) kept_after halts)
   all_run law cuts leaves held rest_leaves gates_rest old new tasks ends (Err error) working settled here kept kept_after it allowed back halts =

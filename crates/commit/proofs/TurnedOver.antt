@@ -1,5 +1,6 @@
 -- The whole of what a turnover of a core promises, from what its vault's turnover promises.
-use Rattle.std.proofs.Common.{◌≡◌, ◌∙◌, ◌⊎◌, ◌+◌, ap, refl, subst, inl, inr, ℕ, true, false, List, [], Result, Ok, Err}
+use Rattle.disk.specs.declared.storage.Disk.{Ghosts}
+use Rattle.std.proofs.Common.{◌≡◌, ◌∙◌, ◌⊎◌, ◌+◌, ap, refl, subst, inl, inr, ℕ, true, false, List, [], Result, Ok, Err, IsTrue}
 use Rattle.disk.specs.declared.side.Side.{Side}
 use Rattle.disk.specs.File.{File, at_rest}
 use Rattle.disk.specs.Time.{Contents, HasCauses}
@@ -54,7 +55,7 @@ module _ {D : Type 0} (failures refusals : D → ℕ) (before after : D) where
   }
 
 module _
-    {D : Type 0} (files : D → Side → File) (moment : D → ℕ) (left_at : D → ℕ → Contents → Type 0) (failures refusals : D → ℕ) (honest : Type 0)
+    {D : Type 0} (storage : Ghosts D)
     (v w : Vault D) (m : Machine) (doubt latest : List Event) (allowance : ℕ) (image : Image) (listed : IsListed image) (lists : Lists image (environment_of m) (facts_of m)) (working : v.halted ≡ false)
   where
     abbrev old : Core D
@@ -71,8 +72,8 @@ module _
     cause_of (inl last) = inl last
     cause_of (inr long) = inr (long image (listed, lists))
 
-    turned : (generation : ℕ) → calls.TurnsOver v w (image_bytes image) (Ok generation) → (honest → calls.WritesSide files v w (image_bytes image) (Ok generation)) → calls.IsFullWhere {T = ℕ} v.halted IsCause (Ok generation)
-        → calls.Halts {T = ℕ} failures refusals v w (Ok generation) → (honest → IsKept files old) → doubt ≡ [] → (honest → LeavesWhileTurning files moment left_at old new) → TurnsAs files moment left_at failures refusals honest old new (Ok generation)
+    turned : (generation : ℕ) → calls.TurnsOver v w (image_bytes image) (Ok generation) → (IsTrue storage.is_honest → calls.WritesSide storage.files v w (image_bytes image) (Ok generation)) → calls.IsFullWhere {T = ℕ} v.halted IsCause (Ok generation)
+        → calls.Halts {T = ℕ} storage.failures storage.refusals v w (Ok generation) → (IsTrue storage.is_honest → IsKept storage.files old) → doubt ≡ [] → (IsTrue storage.is_honest → LeavesWhileTurning storage.files storage.moment storage.left_at old new) → TurnsAs storage old new (Ok generation)
     turned generation over writes full halting kept settled moments = record {
       ok = record { greater = over.side.0; live = (over.side.1, over.side.2); working = over.working; machine = refl; allowance = refl; latest = refl };
       ends = (image, (listed, lists), over.end);
@@ -84,7 +85,7 @@ module _
       halts = record {
         halts = halting.halts;
         halted = (λ is. absurd (not_ok generation (Store Halted) is), λ is. absurd (no_error generation Halted (halting.halted.1 is)));
-        disk = causes_ok failures refusals v.disk w.disk generation halting.disk;
+        disk = causes_ok storage.failures storage.refusals v.disk w.disk generation halting.disk;
         same = tt;
         settled = settled;
       };
@@ -119,8 +120,8 @@ module _
         none (inr (inr (inl is))) = cc
         none (inr (inr (inr is))) = cc
 
-    refused : (error : VaultError) → (honest → calls.WritesSide files v w (image_bytes image) (Err error)) → calls.IsFullWhere {T = ℕ} v.halted IsCause (Err error) → calls.Halts {T = ℕ} failures refusals v w (Err error) → (honest → LeavesWhileTurning files moment left_at old new)
-        → TurnsAs files moment left_at failures refusals honest old new (Err (Store error))
+    refused : (error : VaultError) → (IsTrue storage.is_honest → calls.WritesSide storage.files v w (image_bytes image) (Err error)) → calls.IsFullWhere {T = ℕ} v.halted IsCause (Err error) → calls.Halts {T = ℕ} storage.failures storage.refusals v w (Err error) → (IsTrue storage.is_honest → LeavesWhileTurning storage.files storage.moment storage.left_at old new)
+        → TurnsAs storage old new (Err (Store error))
     refused error writes full halting moments = record {
       ok = tt;
       ends = tt;
@@ -132,7 +133,7 @@ module _
       halts = record {
         halts = halting.halts;
         halted = (λ is. halting.halted.0 (back error Halted is), λ is. store error Halted (halting.halted.1 is));
-        disk = causes failures refusals v.disk w.disk error halting.disk;
+        disk = causes storage.failures storage.refusals v.disk w.disk error halting.disk;
         same = λ is. (halting.same is, refl);
         settled = tt;
       };
@@ -141,15 +142,15 @@ module _
     }
 
     -- both together, for bytes that spell the image
-    pub either : (bytes : List ℕ) → bytes ≡ image_bytes image → (result : Result ℕ VaultError) → calls.TurnsOver v w bytes result → (honest → calls.WritesSide files v w bytes result)
-        → calls.IsFullWhere v.halted (IsLast v.generation ⊎ IsTooLong (v.generation + 1) v.text.items bytes) result → calls.Halts failures refusals v w result
-        → (honest → IsKept files old) → doubt ≡ [] → (honest → LeavesWhileTurning files moment left_at old new) → TurnsAs files moment left_at failures refusals honest old new (answer_of result)
+    pub either : (bytes : List ℕ) → bytes ≡ image_bytes image → (result : Result ℕ VaultError) → calls.TurnsOver v w bytes result → (IsTrue storage.is_honest → calls.WritesSide storage.files v w bytes result)
+        → calls.IsFullWhere v.halted (IsLast v.generation ⊎ IsTooLong (v.generation + 1) v.text.items bytes) result → calls.Halts storage.failures storage.refusals v w result
+        → (IsTrue storage.is_honest → IsKept storage.files old) → doubt ≡ [] → (IsTrue storage.is_honest → LeavesWhileTurning storage.files storage.moment storage.left_at old new) → TurnsAs storage old new (answer_of result)
     either bytes spelled result over writes full halting kept settled moments =
-        by_image result (subst (λ (spelling : List ℕ). calls.TurnsOver v w spelling result) spelled over) (λ on. subst (λ (spelling : List ℕ). calls.WritesSide files v w spelling result) spelled (writes on))
+        by_image result (subst (λ (spelling : List ℕ). calls.TurnsOver v w spelling result) spelled over) (λ on. subst (λ (spelling : List ℕ). calls.WritesSide storage.files v w spelling result) spelled (writes on))
         (subst (λ (spelling : List ℕ). calls.IsFullWhere v.halted (IsLast v.generation ⊎ IsTooLong (v.generation + 1) v.text.items spelling) result) spelled full) halting kept settled moments
       where
-        by_image : (result : Result ℕ VaultError) → calls.TurnsOver v w (image_bytes image) result → (honest → calls.WritesSide files v w (image_bytes image) result) → calls.IsFullWhere v.halted IsCause result → calls.Halts failures refusals v w result
-            → (honest → IsKept files old) → doubt ≡ [] → (honest → LeavesWhileTurning files moment left_at old new) → TurnsAs files moment left_at failures refusals honest old new (answer_of result)
+        by_image : (result : Result ℕ VaultError) → calls.TurnsOver v w (image_bytes image) result → (IsTrue storage.is_honest → calls.WritesSide storage.files v w (image_bytes image) result) → calls.IsFullWhere v.halted IsCause result → calls.Halts storage.failures storage.refusals v w result
+            → (IsTrue storage.is_honest → IsKept storage.files old) → doubt ≡ [] → (IsTrue storage.is_honest → LeavesWhileTurning storage.files storage.moment storage.left_at old new) → TurnsAs storage old new (answer_of result)
         by_image (Ok generation) over writes full halting kept settled moments = turned generation over writes full halting kept settled moments
         by_image (Err error) over writes full halting kept settled moments = refused error writes full halting moments
 
@@ -160,10 +161,10 @@ memory_device : Store NoMemory ≡ Store Device → ⊥
 memory_device is = cc
 
 -- memory was refused first, so the core is as it was
-pub unlisted : {D : Type 0} (files : D → Side → File) (moment : D → ℕ) (left_at : D → ℕ → Contents → Type 0) (failures refusals : D → ℕ) (honest : Type 0) (old now : Core D) → old ≡ now → is_halted old ≡ false
-    → (honest → LeavesWhileTurning files moment left_at old old) → TurnsAs files moment left_at failures refusals honest now now (Err (Store NoMemory))
-unlisted {D} files moment left_at failures refusals honest old now same working moments =
-    subst (λ (core : Core D). TurnsAs files moment left_at failures refusals honest core core (Err (Store NoMemory))) same
+pub unlisted : {D : Type 0} (storage : Ghosts D) (old now : Core D) → old ≡ now → is_halted old ≡ false
+    → (IsTrue storage.is_honest → LeavesWhileTurning storage.files storage.moment storage.left_at old old) → TurnsAs storage now now (Err (Store NoMemory))
+unlisted {D} storage old now same working moments =
+    subst (λ (core : Core D). TurnsAs storage core core (Err (Store NoMemory))) same
     (record {
       ok = tt;
       ends = tt;
@@ -172,7 +173,7 @@ unlisted {D} files moment left_at failures refusals honest old now same working 
       err = record { stays = record { graph = refl; facts = λ _. refl; environment = λ _. refl; allowance = refl; latest = refl }; states = λ _. refl };
       refused = working;
       full = λ _ cause. inr refl;
-      halts = unhalted {T = ℕ} failures refusals old old (Store NoMemory) working refl refl memory_halts memory_device;
+      halts = unhalted {T = ℕ} storage.failures storage.refusals old old (Store NoMemory) working refl refl memory_halts memory_device;
       doubt = refl;
       moments = λ on _. moments on;
     })

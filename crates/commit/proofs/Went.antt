@@ -1,4 +1,5 @@
 -- A run as commits by which a core goes on.
+use Rattle.disk.specs.declared.storage.Disk.{Ghosts}
 use Rattle.std.proofs.Common.{◌∙◌, ap, sym, ℕ, List}
 use Rattle.disk.specs.declared.side.Side.{Side}
 use Rattle.disk.specs.File.{File}
@@ -10,8 +11,8 @@ use Rattle.commit.specs.Runs.{Runs, with_allowance}
 use Rattle.commit.specs.Went.{Went}
 use Rattle.commit.proofs.Lists.{first_ends, given_by_ends}
 
-module _ {D : Type 0} (files : D → Side → File) (moment : D → ℕ) (left_at : D → ℕ → Contents → Type 0) (failures refusals : D → ℕ) (honest : Type 0) where
-  pub of_run : (old new : Core D) (limit : ℕ) (commits : List Commit) → Runs files moment left_at failures refusals honest (with_allowance old limit) new commits → Went files moment left_at failures refusals honest old new commits
+module _ {D : Type 0} (storage : Ghosts D) where
+  pub of_run : (old new : Core D) (limit : ℕ) (commits : List Commit) → Runs storage (with_allowance old limit) new commits → Went storage old new commits
   of_run old new limit commits runs = record {
     legal = runs.legal;
     graph = runs.graph;

@@ -1,5 +1,6 @@
 -- Several outcomes that are committed together: what they say, how far they come, and what is promised of them.
-use Rattle.std.specs.Prelude.{◌≡◌, ◌⊎◌, ◌+◌, ◌<◌, ◌++◌, ⊤, ℕ, true, false, List, [], ◌∷◌, length, drop, Option, Some, None, Result, Ok, Err, IsErrOf, IfOk, IfErr, OnErr}
+use Rattle.disk.specs.declared.storage.Disk.{Ghosts}
+use Rattle.std.specs.Prelude.{◌≡◌, ◌⊎◌, ◌+◌, ◌<◌, ◌++◌, ⊤, ℕ, true, false, List, [], ◌∷◌, length, drop, Option, Some, None, Result, Ok, Err, IsErrOf, IfOk, IfErr, OnErr, IsTrue}
 use Rattle.disk.specs.declared.side.Side.{Side}
 use Rattle.disk.specs.File.{File}
 use Rattle.disk.specs.Time.{Contents}
@@ -144,14 +145,14 @@ pub record FinishesAll {D : Type 0} (files : D → Side → File) (moment : D �
   pub moments : honest → is_halted old ≡ false → CrashLeaves files moment left_at old new commit
 
 -- it is a run by itself: of one commit at `Ok`, and of none at an error
-abbrev pub AllRun : {D : Type 0} → (D → Side → File) → (D → ℕ) → (D → ℕ → Contents → Type 0) → (failures refusals : D → ℕ) → Type 0 → (old new : Core D) → List Event → Result Ended CoreError → Type 0
-AllRun files moment left_at failures refusals honest old new ends (Ok ended) = Runs files moment left_at failures refusals honest old new (cut ended ends ∷ [])
-AllRun files moment left_at failures refusals honest old new ends (Err error) = Runs files moment left_at failures refusals honest old new []
+abbrev pub AllRun : {D : Type 0} → Ghosts D → (old new : Core D) → List Event → Result Ended CoreError → Type 0
+AllRun storage old new ends (Ok ended) = Runs storage old new (cut ended ends ∷ [])
+AllRun storage old new ends (Err error) = Runs storage old new []
 
 -- What a finish of several promises of these ends of the instances: they are committed as far as they come together, or refused; at an error each instance is ready; and it is
 -- a run by itself.
-pub record EndsAll {D : Type 0} (files : D → Side → File) (moment : D → ℕ) (left_at : D → ℕ → Contents → Type 0) (failures refusals : D → ℕ) (honest : Type 0) (old new : Core D) (tasks : List Inst) (ends : List Event) (result : Result Ended CoreError) : Type 0 where
-  pub finishes : FinishesAll files moment left_at honest old new tasks ends result
+pub record EndsAll {D : Type 0} (storage : Ghosts D) (old new : Core D) (tasks : List Inst) (ends : List Event) (result : Result Ended CoreError) : Type 0 where
+  pub finishes : FinishesAll storage.files storage.moment storage.left_at (IsTrue storage.is_honest) old new tasks ends result
   pub err : OnErr result (GivesBackAll old new tasks)
-  pub halts : Halts failures refusals old new result
-  pub runs : is_halted old ≡ false → AllRun files moment left_at failures refusals honest old new ends result
+  pub halts : Halts storage.failures storage.refusals old new result
+  pub runs : is_halted old ≡ false → AllRun storage old new ends result

@@ -1,5 +1,6 @@
 -- What the calls of a core promise: the event that comes at `Ok`, and what an error says and leaves.
-use Rattle.std.specs.Prelude.{◌≡◌, ◌≢◌, ◌⊎◌, ◌↔◌, ◌≤◌, ◌+◌, ℕ, true, false, List, [], ◌∷◌, length, Result, Some, IsErrOf, OnOk, OnErr, IfErr}
+use Rattle.disk.specs.declared.storage.Disk.{Ghosts}
+use Rattle.std.specs.Prelude.{◌≡◌, ◌≢◌, ◌⊎◌, ◌↔◌, ◌≤◌, ◌+◌, ℕ, true, false, List, [], ◌∷◌, length, Result, Some, IsErrOf, OnOk, OnErr, IfErr, IsTrue}
 use Rattle.disk.specs.declared.side.Side.{Side}
 use Rattle.disk.specs.File.{File}
 use Rattle.disk.specs.Time.{Contents, LeavesOnly, HasCauses, HasErred}
@@ -136,10 +137,10 @@ pub record Commits {D T : Type 0} (files : D → Side → File) (moment : D → 
   pub moments : honest → is_halted old ≡ false → CrashLeaves files moment left_at old new (event ∷ [])
 
 -- The whole of such a call: it also says what is unchanged at an error, and when it halts.
-pub record CommitsAs {D T : Type 0} (files : D → Side → File) (moment : D → ℕ) (left_at : D → ℕ → Contents → Type 0) (failures refusals : D → ℕ) (honest : Type 0) (old new : Core D) (why : Refusal → Type 0) (event : Event) (result : Result T CoreError) : Type 0 where
-  pub commits : Commits files moment left_at honest old new why event result
+pub record CommitsAs {D T : Type 0} (storage : Ghosts D) (old new : Core D) (why : Refusal → Type 0) (event : Event) (result : Result T CoreError) : Type 0 where
+  pub commits : Commits storage.files storage.moment storage.left_at (IsTrue storage.is_honest) old new why event result
   pub unchanged : OnErr result (IsUnchanged old new)
-  pub halts : Halts failures refusals old new result
+  pub halts : Halts storage.failures storage.refusals old new result
 
 -- nothing has changed but the states of instances and the allowance: such is each claim, park, release and allowance, and each call of a halted core
 pub record KeepsStore {D : Type 0} (old new : Core D) : Type 0 where

@@ -4,7 +4,7 @@ use Rattle.terms.specs.declared.name.Inst.{Inst}
 use Rattle.terms.specs.Sets.{Facts}
 use Rattle.graph.specs.Graph.{Graph}
 use Rattle.graph.specs.Fits.{IsAbsent}
-use Rattle.steplang.specs.declared.outcome.Parked.{Parked}
+use Rattle.steplang.specs.Running.{Asking}
 use Rattle.machine.specs.Machine.{Machine, facts}
 use Rattle.machine.specs.Results.{AreItems, IsBodyOf}
 use Rattle.commit.specs.declared.outcome.Outcome.{Outcome}
@@ -17,7 +17,7 @@ abbrev pub IsOutcomeIn : Graph → Facts → Inst → Outcome → Type 0
 IsOutcomeIn g X instance (Gave given) = (given.instance ≡ instance) × IsBodyOf g instance given.checked.now.body × AreItems X given.reads
 IsOutcomeIn g X instance (Fault bad) = (bad.instance ≡ instance) × IsBodyOf g instance bad.checked.now.body × AreItems X bad.reads
 
-pub record IsParkedIn (g : Graph) (X : Facts) (instance : Inst) (parked : Parked) : Type 0 where
+pub record IsParkedIn (g : Graph) (X : Facts) (instance : Inst) (parked : Asking) : Type 0 where
   pub instance_is : parked.instance ≡ instance
   pub body : IsBodyOf g instance parked.checked.now.body
   pub reads : AreItems X parked.reads

@@ -1,5 +1,6 @@
 -- What an opening and a creation return.
-use Rattle.std.specs.Prelude.{◌≡◌, ℕ, false, [], Some, Result, Ok, Err, IfOk, IfErr}
+use Rattle.disk.specs.declared.storage.Disk.{Ghosts}
+use Rattle.std.specs.Prelude.{◌≡◌, ℕ, false, [], Some, Result, Ok, Err, IfOk, IfErr, IsTrue}
 use Rattle.disk.specs.declared.side.Side.{Side}
 use Rattle.disk.specs.File.{File}
 use Rattle.disk.specs.Time.{Contents, HasCauses, HasErred}
@@ -44,10 +45,10 @@ abbrev pub Finds : {D : Type 0} → (D → Side → File) → D → Core D → T
 Finds files disk c = Stands (contents_of (files disk)) (graph c) (environment c) (facts c)
 
 -- What an opening promises: a core that has what the files stand for; or why there is none, and the disk back. It only reads.
-pub record OpensAs {D : Type 0} (files : D → Side → File) (moment : D → ℕ) (left_at : D → ℕ → Contents → Type 0) (failures refusals : D → ℕ) (honest : Type 0) (disk : D) (result : Result (Core D) (Refused D)) : Type 0 where
+pub record OpensAs {D : Type 0} (storage : Ghosts D) (disk : D) (result : Result (Core D) (Refused D)) : Type 0 where
   pub opened : IfOk result IsOpened
-  pub finds : honest → IfOk result (Finds files disk)
-  pub tells : honest → TellsWhy (contents_of (files disk)) (HasErred failures refusals disk (disk_of result)) (answer_of result)
-  pub only_reads : honest → OnlyReads files moment left_at disk (disk_of result)
+  pub finds : IsTrue storage.is_honest → IfOk result (Finds storage.files disk)
+  pub tells : IsTrue storage.is_honest → TellsWhy (contents_of (storage.files disk)) (HasErred storage.failures storage.refusals disk (disk_of result)) (answer_of result)
+  pub only_reads : IsTrue storage.is_honest → OnlyReads storage.files storage.moment storage.left_at disk (disk_of result)
   pub errors : IfErr result (λ refused. IsOfOpening refused.error)
-  pub causes : HasCauses failures refusals Device NoMemory disk (disk_of result) (answer_of result)
+  pub causes : HasCauses storage.failures storage.refusals Device NoMemory disk (disk_of result) (answer_of result)

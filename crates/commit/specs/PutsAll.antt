@@ -1,5 +1,6 @@
 -- Several puts of the environment that are committed as one: how many of them come, and what is promised of them.
-use Rattle.std.specs.Prelude.{◌≡◌, ◌+◌, ◌<◌, ℕ, true, false, List, [], ◌∷◌, length, take, Result, Ok, Err, IfOk, IfErr, OnOk, OnErr}
+use Rattle.disk.specs.declared.storage.Disk.{Ghosts}
+use Rattle.std.specs.Prelude.{◌≡◌, ◌+◌, ◌<◌, ℕ, true, false, List, [], ◌∷◌, length, take, Result, Ok, Err, IfOk, IfErr, OnOk, OnErr, IsTrue}
 use Rattle.disk.specs.declared.side.Side.{Side}
 use Rattle.disk.specs.File.{File}
 use Rattle.disk.specs.Time.{Contents}
@@ -45,24 +46,24 @@ RefusesPuts c commit (Store Exists) = ⊥
 
 -- What a call promises that tries these puts as one commit: they were taken, or why they are refused; an error leaves everything as it was, and when it halts. At each moment a
 -- crash leaves the facts before the commit or those after it. The commit is in doubt if the call halted the core.
-pub record TriesPuts {D : Type 0} (files : D → Side → File) (moment : D → ℕ) (left_at : D → ℕ → Contents → Type 0) (failures refusals : D → ℕ) (honest : Type 0) (old new : Core D) (commit : Commit) (result : Result ℕ CoreError) : Type 0 where
+pub record TriesPuts {D : Type 0} (storage : Ghosts D) (old new : Core D) (commit : Commit) (result : Result ℕ CoreError) : Type 0 where
   pub takes : OnOk result (TakesAny old new commit)
   pub unchanged : OnErr result (IsUnchanged old new)
   pub refused : IfErr result (RefusesPuts old commit)
   pub full : is_halted old ≡ false → TellsFullAll old commit result
   pub doubt : AreInDoubt old new commit result
-  pub moments : honest → is_halted old ≡ false → CrashLeaves files moment left_at old new commit
-  pub halts : Halts failures refusals old new result
+  pub moments : IsTrue storage.is_honest → is_halted old ≡ false → CrashLeaves storage.files storage.moment storage.left_at old new commit
+  pub halts : Halts storage.failures storage.refusals old new result
 
 -- the core goes on by these puts as one commit; by none, if none comes or they are refused
-abbrev pub PutsGoOn : {D : Type 0} → (D → Side → File) → (D → ℕ) → (D → ℕ → Contents → Type 0) → (failures refusals : D → ℕ) → Type 0 → (old new : Core D) → Commit → Result ℕ CoreError → Type 0
-PutsGoOn files moment left_at failures refusals honest old new commit (Ok count) = GoesOn files moment left_at failures refusals honest old new (in_one commit)
-PutsGoOn files moment left_at failures refusals honest old new commit (Err error) = GoesOn files moment left_at failures refusals honest old new []
+abbrev pub PutsGoOn : {D : Type 0} → Ghosts D → (old new : Core D) → Commit → Result ℕ CoreError → Type 0
+PutsGoOn storage old new commit (Ok count) = GoesOn storage old new (in_one commit)
+PutsGoOn storage old new commit (Err error) = GoesOn storage old new []
 
 -- What a put of several promises: it tries as one commit just those that come together, which are the longest legal prefix of them, and returns their number.
-pub record PutsAll {D : Type 0} (files : D → Side → File) (moment : D → ℕ) (left_at : D → ℕ → Contents → Type 0) (failures refusals : D → ℕ) (honest : Type 0) (old new : Core D) (puts : List Event) (result : Result ℕ CoreError) : Type 0 where
+pub record PutsAll {D : Type 0} (storage : Ghosts D) (old new : Core D) (puts : List Event) (result : Result ℕ CoreError) : Type 0 where
   pub count : ℕ
   pub together : is_halted old ≡ false → PutsTogether (graph old) (facts old) puts count
   pub told : IfOk result (λ answer. answer ≡ count)
-  pub tries : TriesPuts files moment left_at failures refusals honest old new (take count puts) result
-  pub goes_on : PutsGoOn files moment left_at failures refusals honest old new (take count puts) result
+  pub tries : TriesPuts storage old new (take count puts) result
+  pub goes_on : PutsGoOn storage old new (take count puts) result

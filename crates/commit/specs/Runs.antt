@@ -1,5 +1,6 @@
 -- A run of the steps of a core: the ends of instances that it commits, and what it returns.
-use Rattle.std.specs.Prelude.{◌≡◌, ◌≢◌, ◌⊎◌, ◌↔◌, ◌+◌, ◌<◌, ◌≤◌, ⊤, ℕ, Bool, true, false, List, [], ◌∷◌, ◌++◌, length, Some, Result, Ok, Err, OnErr}
+use Rattle.disk.specs.declared.storage.Disk.{Ghosts}
+use Rattle.std.specs.Prelude.{◌≡◌, ◌≢◌, ◌⊎◌, ◌↔◌, ◌+◌, ◌<◌, ◌≤◌, ⊤, ℕ, Bool, true, false, List, [], ◌∷◌, ◌++◌, length, Some, Result, Ok, Err, OnErr, IsTrue}
 use Rattle.std.specs.List.{AllByRecursion}
 use mathlib.Core.List.{IsPrefix}
 use Rattle.journal.specs.declared.journal.TheConstants.{LIMIT}
@@ -127,8 +128,8 @@ pub record RunsSince {D : Type 0} (moment : D → ℕ) (left_at : D → ℕ → 
   pub some_in_doubt : is_halted new ≡ true → (0 < length new.in_doubt) × (length (events_of commits) + length new.in_doubt ≤ begun.allowance)
 
 -- the same from one core to another
-abbrev pub Runs : {D : Type 0} → (D → Side → File) → (D → ℕ) → (D → ℕ → Contents → Type 0) → (failures refusals : D → ℕ) → Type 0 → (old new : Core D) → List Commit → Type 0
-Runs files moment left_at failures refusals honest old new commits = RunsSince moment left_at failures refusals honest (begun_by files moment failures refusals old) (left_at old.vault.disk) new commits
+abbrev pub Runs : {D : Type 0} → Ghosts D → (old new : Core D) → List Commit → Type 0
+Runs storage old new commits = RunsSince storage.moment storage.left_at storage.failures storage.refusals (IsTrue storage.is_honest) (begun_by storage.files storage.moment storage.failures storage.refusals old) (storage.left_at old.vault.disk) new commits
 
 -- ---- what is returned
 
@@ -175,24 +176,24 @@ EndsEarly c error = is_halted c ≡ false → (error ≡ Store vault.NoMemory) �
 abbrev pub with_allowance : {D : Type 0} → Core D → ℕ → Core D
 with_allowance c count = record c { allowance = count }
 
-pub record RunsWithin {D : Type 0} (files : D → Side → File) (moment : D → ℕ) (left_at : D → ℕ → Contents → Type 0) (failures refusals : D → ℕ) (honest : Type 0) (may_be_asked may_spawn : Bool) (old new : Core D) (limit : ℕ) (result : Result Verdict RunError) : Type 0 where
+pub record RunsWithin {D : Type 0} (storage : Ghosts D) (may_be_asked may_spawn : Bool) (old new : Core D) (limit : ℕ) (result : Result Verdict RunError) : Type 0 where
   pub commits : List Commit
-  pub runs : Runs files moment left_at failures refusals honest (with_allowance old limit) new commits
+  pub runs : Runs storage (with_allowance old limit) new commits
   pub told : TellsVerdict (MetFull (graph old) (facts old) old.vault.journal.end commits × (may_spawn ≡ false → IsFull new)) may_be_asked may_spawn new limit (length (events_of commits)) result
 
 -- the same, for some commits
-pub record RunsOn {D : Type 0} (files : D → Side → File) (moment : D → ℕ) (left_at : D → ℕ → Contents → Type 0) (failures refusals : D → ℕ) (honest : Type 0) (old new : Core D) : Type 0 where
+pub record RunsOn {D : Type 0} (storage : Ghosts D) (old new : Core D) : Type 0 where
   pub commits : List Commit
-  pub runs : Runs files moment left_at failures refusals honest old new commits
+  pub runs : Runs storage old new commits
 
 -- A finish is a run by itself: of one end at `Ok`, and of none at an error.
-abbrev pub EndRuns : {D : Type 0} → (D → Side → File) → (D → ℕ) → (D → ℕ → Contents → Type 0) → (failures refusals : D → ℕ) → Type 0 → (old new : Core D) → Inst → Outcome → Result Committed CoreError → Type 0
-EndRuns files moment left_at failures refusals honest old new instance outcome (Ok committed) = (end : Event) × IsEndOf outcome instance end × Tells committed end × Runs files moment left_at failures refusals honest old new ((end ∷ []) ∷ [])
-EndRuns files moment left_at failures refusals honest old new instance outcome (Err error) = Runs files moment left_at failures refusals honest old new []
+abbrev pub EndRuns : {D : Type 0} → Ghosts D → (old new : Core D) → Inst → Outcome → Result Committed CoreError → Type 0
+EndRuns storage old new instance outcome (Ok committed) = (end : Event) × IsEndOf outcome instance end × Tells committed end × Runs storage old new ((end ∷ []) ∷ [])
+EndRuns storage old new instance outcome (Err error) = Runs storage old new []
 
 -- What a finish promises: an end of the instance is committed, or refused; at an error the instance is ready; and it is a run by itself.
-pub record Ends {D : Type 0} (files : D → Side → File) (moment : D → ℕ) (left_at : D → ℕ → Contents → Type 0) (failures refusals : D → ℕ) (honest : Type 0) (old new : Core D) (task : Inst) (outcome : Outcome) (result : Result Committed CoreError) : Type 0 where
-  pub finishes : Finishes files moment left_at honest old new task outcome result
+pub record Ends {D : Type 0} (storage : Ghosts D) (old new : Core D) (task : Inst) (outcome : Outcome) (result : Result Committed CoreError) : Type 0 where
+  pub finishes : Finishes storage.files storage.moment storage.left_at (IsTrue storage.is_honest) old new task outcome result
   pub err : OnErr result (GivesBack old new task)
-  pub halts : Halts failures refusals old new result
-  pub runs : is_halted old ≡ false → EndRuns files moment left_at failures refusals honest old new task outcome result
+  pub halts : Halts storage.failures storage.refusals old new result
+  pub runs : is_halted old ≡ false → EndRuns storage old new task outcome result

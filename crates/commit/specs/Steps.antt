@@ -6,7 +6,7 @@ use Rattle.terms.specs.declared.put.Put.{Put}
 use Rattle.graph.specs.Fits.{HasNoFault, IsAbsent}
 use Rattle.instances.specs.declared.state.State.{State}
 use Rattle.instances.specs.declared.state.State.TheVariants.{Ready, Running, Waiting}
-use Rattle.steplang.specs.declared.outcome.Parked.{Parked}
+use Rattle.steplang.specs.Running.{Asking}
 use Rattle.machine.specs.Machine.{HasItem}
 use Rattle.machine.specs.Machine as machine
 use Rattle.commit.specs.Came.{IsParkedIn}
@@ -61,7 +61,7 @@ pub record IsHalted {D T : Type 0} (old new : Core D) (result : Result T CoreErr
   pub same : new ≡ old
 
 -- What a park requires of its result: it is of this instance and of the body of its step, and the items that it read are items here.
-abbrev pub IsParkedOf : {D : Type 0} → Core D → Inst → Parked → Type 0
+abbrev pub IsParkedOf : {D : Type 0} → Core D → Inst → Asking → Type 0
 IsParkedOf c instance parked = IsParkedIn (graph c) (facts c) instance parked
 
 -- Why a park is refused: the core is halted; or memory was refused, and the item is not there. The instance is ready, and nothing else has

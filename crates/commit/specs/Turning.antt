@@ -1,5 +1,6 @@
 -- What a turnover of a core promises.
-use Rattle.std.specs.Prelude.{◌≡◌, ◌≢◌, ◌⊎◌, ◌+◌, ℕ, true, false, [], length, Result, IsErrOf, IfOk, IfErr, OnErr}
+use Rattle.disk.specs.declared.storage.Disk.{Ghosts}
+use Rattle.std.specs.Prelude.{◌≡◌, ◌≢◌, ◌⊎◌, ◌+◌, ℕ, true, false, [], length, Result, IsErrOf, IfOk, IfErr, OnErr, IsTrue}
 use Rattle.disk.specs.declared.side.Side.{Side}
 use Rattle.disk.specs.File.{File, at_rest}
 use Rattle.disk.specs.Time.{Contents, LeavesOnly}
@@ -64,14 +65,14 @@ pub record LeavesWhileTurning {D : Type 0} (files : D → Side → File) (moment
   pub gates : HasGates (contents_of (files old.vault.disk)) → LeavesOnly moment left_at old.vault.disk new.vault.disk HasGates
 
 -- What a turnover promises. On an honest disk the file that was live stays as it was, whatever is returned.
-pub record TurnsAs {D : Type 0} (files : D → Side → File) (moment : D → ℕ) (left_at : D → ℕ → Contents → Type 0) (failures refusals : D → ℕ) (honest : Type 0) (old new : Core D) (result : Result ℕ CoreError) : Type 0 where
+pub record TurnsAs {D : Type 0} (storage : Ghosts D) (old new : Core D) (result : Result ℕ CoreError) : Type 0 where
   pub ok : IfOk result (Turns old new)
   pub ends : IfOk result (EndsAnew old new)
-  pub written : honest → IfOk result (WritesAnew files old new)
-  pub live : honest → files new.vault.disk old.vault.journal.side ≡ files old.vault.disk old.vault.journal.side
+  pub written : IsTrue storage.is_honest → IfOk result (WritesAnew storage.files old new)
+  pub live : IsTrue storage.is_honest → storage.files new.vault.disk old.vault.journal.side ≡ storage.files old.vault.disk old.vault.journal.side
   pub err : OnErr result (IsUnchanged old new)
   pub refused : IfErr result (RefusesTurn old)
   pub full : TellsFullTurn old result
-  pub halts : Halts failures refusals old new result
+  pub halts : Halts storage.failures storage.refusals old new result
   pub doubt : new.in_doubt ≡ old.in_doubt
-  pub moments : honest → is_halted old ≡ false → LeavesWhileTurning files moment left_at old new
+  pub moments : IsTrue storage.is_honest → is_halted old ≡ false → LeavesWhileTurning storage.files storage.moment storage.left_at old new

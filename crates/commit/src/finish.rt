@@ -34,7 +34,7 @@ impl<D: Disk> Core<D> {
     pub fn finish(&mut self, task: Task, outcome: Outcome<'_>) -> Result<Committed, CoreError>
         requires running { state_of self.old task ≡ Some Running }
         requires outcome { IsOutcomeOf self.old task outcome }
-        ensures { Ends D.files D.moment D.left_at D.failures D.refusals (IsTrue D.is_honest) self.old self.new task outcome.entry result }
+        ensures { Ends D.Disk self.old self.new task outcome.entry result }
     {
         results_are_meant();
         stores_go_on::<D>();

@@ -37,7 +37,7 @@ impl<D: Disk> Core<D> {
     /// ends are refused, all of the instances are ready.
     pub fn finish_all(&mut self, batch: Batch<'_>, ahead: &[u8]) -> Result<Ended, CoreError>
         requires { AreOutcomesOf self.old batch }
-        ensures { EndsAll D.files D.moment D.left_at D.failures D.refusals (IsTrue D.is_honest) self.old self.new batch.entry.tasks (ends_said batch.entry) result }
+        ensures { EndsAll D.Disk self.old self.new batch.entry.tasks (ends_said batch.entry) result }
     {
         results_are_meant();
         let (tasks, ends) = batch.into_ends();
@@ -50,7 +50,7 @@ impl<D: Disk> Core<D> {
         requires ended { ended_by ends.items ≡ tasks }
         requires some { 1 ≤ length ends.items }
         requires few { length ends.items ≤ MOST_TOGETHER }
-        ensures { EndsAll D.files D.moment D.left_at D.failures D.refusals (IsTrue D.is_honest) self.old self.new tasks ends.items result }
+        ensures { EndsAll D.Disk self.old self.new tasks ends.items result }
     {
         stores_go_on::<D>();
         cut_in_turn();

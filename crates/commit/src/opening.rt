@@ -29,7 +29,7 @@ impl<D: Disk> Core<D> {
     /// It returns `Damaged` and `NotAStore` only if the files stand for nothing, and hands the disk back with each error.
     /// Nothing is written, whatever is returned.
     pub fn open(alloc: Global, disk: D) -> Result<Core<D>, Refused<D>>
-        ensures { OpensAs D.files D.moment D.left_at D.failures D.refusals (IsTrue D.is_honest) disk result }
+        ensures { OpensAs D.Disk disk result }
     {
         stores_go_on::<D>();
         match vault::open(alloc, disk) {

@@ -28,7 +28,7 @@ impl<D: Disk> Core<D> {
     pub fn put_all(&mut self, puts: Vec<Event>) -> Result<usize, CoreError>
         requires puts { AllByRecursion IsPut puts.items }
         requires few { length puts.items ≤ MOST_TOGETHER }
-        ensures { PutsAll D.files D.moment D.left_at D.failures D.refusals (IsTrue D.is_honest) self.old self.new puts.items result }
+        ensures { PutsAll D.Disk self.old self.new puts.items result }
     {
         stores_go_on::<D>();
         taken_in_turn();
@@ -54,7 +54,7 @@ impl<D: Disk> Core<D> {
         requires puts { AllByRecursion IsPut puts.items }
         requires working { is_halted self.old ≡ false }
         requires legal { AreLegalFrom (graph self.old) (facts self.old) puts.items }
-        ensures tries { TriesPuts D.files D.moment D.left_at D.failures D.refusals (IsTrue D.is_honest) self.old self.new puts.items result }
+        ensures tries { TriesPuts D.Disk self.old self.new puts.items result }
         ensures told { IfOk result (λ answer. answer ≡ length puts.items) }
     {
         stores_go_on::<D>();

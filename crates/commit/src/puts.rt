@@ -20,7 +20,7 @@ impl<D: Disk> Core<D> {
     /// of the environment in this graph; a fault stopped the store; the item is there already; `Full`. An error that does
     /// not halt leaves everything as it was.
     pub fn put_item(&mut self, addr: Addr, value: i64) -> Result<(), CoreError>
-        ensures { CommitsAs D.files D.moment D.left_at D.failures D.refusals (IsTrue D.is_honest) self.old self.new (RefusesItem (graph self.old) (facts self.old) addr) (EnvItem addr value) result }
+        ensures { CommitsAs D.Disk self.old self.new (RefusesItem (graph self.old) (facts self.old) addr) (EnvItem addr value) result }
     {
         stores_go_on::<D>();
         self.is_kept();
@@ -37,7 +37,7 @@ impl<D: Disk> Core<D> {
     /// of the environment in this graph; a fault stopped the store; the tag is there already; `Full`. An error that does
     /// not halt leaves everything as it was.
     pub fn put_tag(&mut self, tag: Tag) -> Result<(), CoreError>
-        ensures { CommitsAs D.files D.moment D.left_at D.failures D.refusals (IsTrue D.is_honest) self.old self.new (RefusesTag (graph self.old) (facts self.old) tag) (EnvTag tag) result }
+        ensures { CommitsAs D.Disk self.old self.new (RefusesTag (graph self.old) (facts self.old) tag) (EnvTag tag) result }
     {
         stores_go_on::<D>();
         self.is_kept();

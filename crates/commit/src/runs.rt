@@ -27,7 +27,7 @@ pub fn run_with<D: Disk, C: Choose>(
     requires { NoneRuns core }
     ensures idle { NoneRuns result.0 }
     ensures halted { is_halted core ≡ true → (result.0 ≡ core) × (result.1 ≡ Ok Halted) }
-    ensures runs { is_halted core ≡ false → RunsWithin D.files D.moment D.left_at D.failures D.refusals (IsTrue D.is_honest) false false core result.0 limit result.1 }
+    ensures runs { is_halted core ≡ false → RunsWithin D.Disk false false core result.0 limit result.1 }
 {
     let mut core = core;
     let verdict = core.run_within(alloc, chooser, limit);
@@ -54,7 +54,7 @@ impl<D: Disk> Core<D> {
         requires idle { NoneRuns self.old }
         ensures idle { NoneRuns self.new }
         ensures halted { is_halted self.old ≡ true → (self.new ≡ self.old) × (result ≡ Ok Halted) }
-        ensures runs { is_halted self.old ≡ false → RunsWithin D.files D.moment D.left_at D.failures D.refusals (IsTrue D.is_honest) false false self.old self.new limit result }
+        ensures runs { is_halted self.old ≡ false → RunsWithin D.Disk false false self.old self.new limit result }
     {
         self.is_kept();
         match self.allow(limit) {
@@ -71,7 +71,7 @@ impl<D: Disk> Core<D> {
         requires idle { NoneRuns self.old }
         requires working { is_halted self.old ≡ false }
         ensures idle { NoneRuns self.new }
-        ensures runs { RunsOn D.files D.moment D.left_at D.failures D.refusals (IsTrue D.is_honest) self.old self.new }
+        ensures runs { RunsOn D.Disk self.old self.new }
         ensures ok { OnOk result (MayClaim self.new 0 → ⊥) }
         ensures err { IfErr result (EndsEarly self.new) }
     {
@@ -94,7 +94,7 @@ impl<D: Disk> Core<D> {
         requires idle { NoneRuns self.old }
         requires working { is_halted self.old ≡ false }
         ensures idle { NoneRuns self.new }
-        ensures runs { RunsOn D.files D.moment D.left_at D.failures D.refusals (IsTrue D.is_honest) self.old self.new }
+        ensures runs { RunsOn D.Disk self.old self.new }
         ensures ok { OnOk result (MayClaim self.new 0 → ⊥) }
         ensures err { IfErr result (EndsEarly self.new) }
     {
@@ -121,7 +121,7 @@ impl<D: Disk> Core<D> {
         requires idle { NoneRuns self.old }
         requires working { is_halted self.old ≡ false }
         ensures idle { NoneRuns self.new }
-        ensures runs { RunsOn D.files D.moment D.left_at D.failures D.refusals (IsTrue D.is_honest) self.old self.new }
+        ensures runs { RunsOn D.Disk self.old self.new }
         ensures ok { IfOk result (λ ended. (is_halted self.new ≡ false) × (self.new.in_doubt ≡ []) × (ended ≡ true → self.new.allowance < self.old.allowance) × (ended ≡ false → MayClaim self.new 0 → ⊥)) }
         ensures err { IfErr result (EndsEarly self.new) }
     {
@@ -155,7 +155,7 @@ impl<D: Disk> Core<D> {
         requires working { is_halted self.old ≡ false }
         requires no_fault { HasNoFault (facts self.old) }
         ensures idle { NoneRuns self.new }
-        ensures runs { RunsOn D.files D.moment D.left_at D.failures D.refusals (IsTrue D.is_honest) self.old self.new }
+        ensures runs { RunsOn D.Disk self.old self.new }
         ensures ok { IfOk result (λ ended. (is_halted self.new ≡ false) × (self.new.in_doubt ≡ []) × (ended ≡ true → self.new.allowance < self.old.allowance) × (ended ≡ false → (self.new.allowance ≡ self.old.allowance) × (ready_count self.new ≡ ready_count self.old))) }
         ensures err { IfErr result (EndsEarly self.new) }
     {
@@ -167,7 +167,7 @@ impl<D: Disk> Core<D> {
                 Ok(_) => Ok(true),
                 Err(error) => Err(error),
             },
-            Ok(Came::Waits(parked)) => match self.park(task, parked) {
+            Ok(Came::Waits(parked)) => match self.let_wait(task, parked) {
                 Ok(()) => Ok(false),
                 Err(error) => Err(error),
             },

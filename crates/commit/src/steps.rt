@@ -58,20 +58,30 @@ impl<D: Disk> Core<D> {
     /// The result must be of the task's instance and of the body of its step in this graph, and the items that it read
     /// must be items of this core. If it is refused the instance is ready: `Halted`, and `NoMemory` if memory was
     /// refused.
-    pub fn park(&mut self, task: Task, parked: Parked<'_>) -> Result<(), CoreError>
+    pub fn park(&mut self, task: Task, parked: &Parked<'_>) -> Result<(), CoreError>
         requires running { state_of self.old task ≡ Some Running }
-        requires result { IsParkedOf self.old task parked }
-        ensures { Parks self.old self.new task parked.entry.address result }
+        requires result { IsParkedOf self.old task parked.now }
+        ensures { Parks self.old self.new task parked.now.address result }
     {
         results_are_meant();
         if self.vault.is_halted() {
             self.machine.release(task);
             return Err(CoreError::Store(VaultError::Halted));
         }
-        match self.machine.park(task, parked.address) {
-            Ok(()) => Ok(()),
-            Err(_) => Err(CoreError::Store(VaultError::NoMemory)),
+        let address = parked.address();
+        if let Err(_) = self.machine.park(task, address) {
+            return Err(CoreError::Store(VaultError::NoMemory));
         }
+        Ok(())
+    }
+
+    /// As `park`. The run is let go.
+    pub(crate) fn let_wait(&mut self, task: Task, parked: Parked<'_>) -> Result<(), CoreError>
+        requires running { state_of self.old task ≡ Some Running }
+        requires result { IsParkedOf self.old task parked }
+        ensures { Parks self.old self.new task parked.entry.address result }
+    {
+        self.park(task, &parked)
     }
 
     /// Gives the instance of a task back: it is ready.

@@ -16,7 +16,7 @@ impl<D: Disk> Core<D> {
     ///
     /// The causes of a refusal, in their order: `Halted`, `Full`. An error that does not halt leaves everything as it was.
     pub fn turn(&mut self, alloc: Global) -> Result<u64, CoreError>
-        ensures { TurnsAs D.files D.moment D.left_at D.failures D.refusals (IsTrue D.is_honest) self.old self.new result }
+        ensures { TurnsAs D.Disk self.old self.new result }
     {
         stores_go_on::<D>();
         if self.vault.is_halted() {

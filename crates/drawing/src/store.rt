@@ -70,7 +70,7 @@ fn park<D: Disk>(
     match core.claim(at) {
         Ok(Some(task)) => match core.run(alloc, graph, &task) {
             Ok(Came::Waits(parked)) => {
-                core.park(task, parked)?;
+                core.park(task, &parked)?;
                 Ok(true)
             }
             Ok(Came::Ended(_)) => {

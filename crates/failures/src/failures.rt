@@ -162,7 +162,7 @@ fn crashed<R: Threads + Wait + Sync>(
 ) -> Result<Option<&'static str>, AllocError> {
     let mut disk = disk;
     let fill = disk.fill(stage.alloc, choice)?;
-    if matches!(right.deed, Deed::Report | Deed::Verify) && !are_same(first, &fill) {
+    if matches!(right.deed, Deed::Report | Deed::Tell) && !are_same(first, &fill) {
         return Ok(Some("the files have changed"));
     }
     if disk.crash(fill).is_err() {

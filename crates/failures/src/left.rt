@@ -34,7 +34,7 @@ pub(crate) fn broken_by_crash(
     match right.deed {
         Deed::Create if kind == Kind::Reader => same(after, NOT_A_STORE),
         Deed::Create if kind != Kind::Writer && is_refused(after) => None,
-        Deed::Create | Deed::Report | Deed::Verify | Deed::Turn => same(after, right.report),
+        Deed::Create | Deed::Report | Deed::Tell | Deed::Turn => same(after, right.report),
         Deed::Run if came.held.is_empty() => same(after, before),
         Deed::Run => broken_run(kind, right, before, came, after),
     }
@@ -172,7 +172,7 @@ pub(crate) fn broken_by_more(
     let is_right = match right.deed {
         Deed::Create => told == right.writes || told == "! store refused: exists\nstatus 4\n",
         Deed::Turn => told.starts_with("turned, generation "),
-        Deed::Report | Deed::Verify => told == right.writes,
+        Deed::Report | Deed::Tell => told == right.writes,
         Deed::Run => is_completed(right, answered, fault_in(found), told),
     };
     if is_right {

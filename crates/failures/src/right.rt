@@ -10,7 +10,8 @@ pub(crate) enum Deed {
     Create,
     Run,
     Report,
-    Verify,
+    /// It writes what its row has, and leaves the store as it is: a certificate, a log, or a report of the past.
+    Tell,
     Turn,
 }
 
@@ -20,8 +21,9 @@ impl Deed {
         match line.split(' ').nth(1).unwrap_or("") {
             "create" => Deed::Create,
             "run" => Deed::Run,
-            "verify" => Deed::Verify,
+            "verify" | "log" => Deed::Tell,
             "turn" => Deed::Turn,
+            _ if line.contains(" --at ") => Deed::Tell,
             _ => Deed::Report,
         }
     }

@@ -4,13 +4,14 @@
 //! by itself, so there is a law for each part.
 
 ghost use denote.Param.Send.{IsSend, IsSync};
+ghost use Rattle.steptree.specs.contracts.checked.Checked as of_body;
 ghost use Rattle.graph.specs.contracts.graph.Graph as of_graph;
 ghost use Rattle.graph.specs.contracts.graph.Prescribed as of_step;
 ghost use Rattle.graph.specs.contracts.numbered.Numbered as of_names;
 
 use crate::graph::Prescribed;
 use indexmap::IndexMap;
-use steptree::{Block, Checked, Components, Expression, Statement};
+use steptree::{Block, Body, Code, Components, Expression, Formula, Instruction, Statement};
 use terms::{StepCollection, TagCollection};
 
 /// Gives its caller the clause that trait search finds for a type.
@@ -39,15 +40,41 @@ fn names_are_shared<V: Sync>()
     is_shared::<IndexMap<String, V>>();
 }
 
-/// What a graph holds of a step collection.
-fn steps_go()
-    ensures { IsSend of_step.the_row }
+/// The body of a step, with its code.
+fn bodies_go()
+    ensures { IsSend of_body.the_row }
 {
     goes::<Expression>();
     goes::<Components>();
     goes::<Statement>();
     goes::<Block>();
-    goes::<Checked>();
+    goes::<Formula>();
+    goes::<Instruction>();
+    goes::<Body>();
+    goes::<Code>();
+    goes::<Vec<String>>();
+}
+
+/// The same for sharing between threads.
+fn bodies_are_shared()
+    ensures { IsSync of_body.the_row }
+{
+    is_shared::<Expression>();
+    is_shared::<Components>();
+    is_shared::<Statement>();
+    is_shared::<Block>();
+    is_shared::<Formula>();
+    is_shared::<Instruction>();
+    is_shared::<Body>();
+    is_shared::<Code>();
+    is_shared::<Vec<String>>();
+}
+
+/// What a graph holds of a step collection.
+fn steps_go()
+    ensures { IsSend of_step.the_row }
+{
+    bodies_go();
     goes::<Vec<bool>>();
     goes::<TagCollection>();
 }
@@ -56,11 +83,7 @@ fn steps_go()
 fn steps_are_shared()
     ensures { IsSync of_step.the_row }
 {
-    is_shared::<Expression>();
-    is_shared::<Components>();
-    is_shared::<Statement>();
-    is_shared::<Block>();
-    is_shared::<Checked>();
+    bodies_are_shared();
     is_shared::<Vec<bool>>();
     is_shared::<TagCollection>();
 }

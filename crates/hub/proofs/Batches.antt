@@ -1,4 +1,5 @@
 -- Several ends that are committed together.
+use Rattle.disk.specs.declared.storage.Disk.{Ghosts}
 use Rattle.std.proofs.Common.{◌≡◌, ◌∙◌, ◌+◌, ◌<◌, ◌≤◌, ◌++◌, ⊎_elim, ℕ, zero, suc, false, List, [], ◌∷◌, length, drop, Option, Some, None, refl, sym, ap, subst, arith, Result, Ok, Err}
 use Rattle.std.proofs.lemmas.List.{append-nil}
 use Rattle.std.specs.List.{AllByRecursion}
@@ -78,14 +79,14 @@ all_steps [] all = omega arith
 all_steps (end ∷ ends) all = omega (arith, one_step end all.0, all_steps ends all.1)
 
 -- the ends of a run of one commit
-pub are_ends : {D : Type 0} (files : D → Side → File) (moment : D → ℕ) (left_at : D → ℕ → Contents → Type 0) (failures refusals : D → ℕ) (honest : Type 0) (old new : Core D) (commit : Commit)
-    → Runs files moment left_at failures refusals honest old new (commit ∷ []) → AllByRecursion IsEnd commit
-are_ends files moment left_at failures refusals honest old new commit runs = first_ends commit [] (first_ends (commit ++ []) new.in_doubt runs.are_ends)
+pub are_ends : {D : Type 0} (storage : Ghosts D) (old new : Core D) (commit : Commit)
+    → Runs storage old new (commit ∷ []) → AllByRecursion IsEnd commit
+are_ends storage old new commit runs = first_ends commit [] (first_ends (commit ++ []) new.in_doubt runs.are_ends)
 
-pub comes_all : {D : Type 0} (files : D → Side → File) (moment : D → ℕ) (left_at : D → ℕ → Contents → Type 0) (failures refusals : D → ℕ) (honest : Type 0) (old new : Core D) (tasks : List Inst) (ends : List Event) (commit : Commit) (ended : Ended)
-    → EndsAsAnswered old new tasks ends commit ended → Runs files moment left_at failures refusals honest old new (cut ended ends ∷ []) → Comes old new (cut ended ends)
-comes_all files moment left_at failures refusals honest old new tasks ends commit ended answered runs =
-    let all : AllByRecursion IsEnd (cut ended ends) = are_ends files moment left_at failures refusals honest old new (cut ended ends) runs in record {
+pub comes_all : {D : Type 0} (storage : Ghosts D) (old new : Core D) (tasks : List Inst) (ends : List Event) (commit : Commit) (ended : Ended)
+    → EndsAsAnswered old new tasks ends commit ended → Runs storage old new (cut ended ends ∷ []) → Comes old new (cut ended ends)
+comes_all storage old new tasks ends commit ended answered runs =
+    let all : AllByRecursion IsEnd (cut ended ends) = are_ends storage old new (cut ended ends) runs in record {
       legal = answered.together.legal;
       graph = runs.graph;
       facts = λ fact. runs.facts fact ∙ ap (λ (list : List Event). with_facts (core.facts old) (stated.facts list) fact) (append-nil (cut ended ends));

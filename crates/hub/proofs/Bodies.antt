@@ -11,9 +11,8 @@ use Rattle.steptree.specs.declared.checked.Checked.{Checked}
 use Rattle.steptree.specs.Bodies.{Along, Asks}
 use Rattle.steptree.specs.Laws.{ReadsWithinBudget}
 use Rattle.steptree.specs.Run.{Read}
-use Rattle.steplang.specs.declared.outcome.Parked.{Parked}
 use Rattle.steplang.specs.declared.outcome.Turn.TheVariants.{Need}
-use Rattle.steplang.specs.Running.{Running, Awaits, IsDue, ValueOf, answered, pending_of, reads_with}
+use Rattle.steplang.specs.Running.{Asking, Running, Awaits, IsDue, ValueOf, answered, pending_of, reads_with}
 use Rattle.steplang.specs.Turns.{Tells}
 use Rattle.graph.specs.Fits.{IsAbsent}
 use Rattle.machine.specs.Machine.{RefusesRead}
@@ -165,7 +164,7 @@ stops_again both go_on stay opening some all begins run address error waits is r
     )
 
 -- and may be parked
-pub parked_of_run : (g : Graph) (X : Facts) (instance : Inst) (run : Running) (parked : Parked) → WaitsIn g X instance run
+pub parked_of_run : (g : Graph) (X : Facts) (instance : Inst) (run : Running) (parked : Asking) → WaitsIn g X instance run
     → run ≡ record { checked = parked.checked; instance = parked.instance; reads = parked.reads; awaits = ValueOf parked.address } → IsParkedIn g X instance parked
 parked_of_run g X instance run parked waits is = record {
   instance_is = sym (ap (λ (r : Running). r.instance) is) ∙ waits.instance_is;

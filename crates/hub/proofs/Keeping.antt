@@ -1,4 +1,5 @@
 -- What the lock keeps stays kept.
+use Rattle.disk.specs.declared.storage.Disk.{Ghosts}
 use Rattle.std.proofs.Common.{◌≡◌, ◌∙◌, ◌<◌, ◌≤◌, ◌+◌, ⊎_elim, ℕ, Bool, true, false, true≢false, List, [], ◌∷◌, ◌++◌, length, refl, sym, ap, subst, arith, inl, Result, Err}
 use Rattle.disk.specs.declared.side.Side.{Side}
 use Rattle.disk.specs.File.{File}
@@ -119,11 +120,11 @@ kept_woken Ran ran_stays opening passes d old new puts kept wakes =
     wakes.vault wakes.in_doubt
 
 -- what a call says of the core that is kept, it says of the core that is seen, and of the event as it is named
-pub commits_as : {D T : Type 0} (files : D → Side → File) (moment : D → ℕ) (left_at : D → ℕ → Contents → Type 0) (failures refusals : D → ℕ) (honest : Type 0) (inside seen new : Core D) (why : Core D → Refusal → Type 0)
+pub commits_as : {D T : Type 0} (storage : Ghosts D) (inside seen new : Core D) (why : Core D → Refusal → Type 0)
     (event named : Event) (result : Result T CoreError) → inside ≡ seen → event ≡ named
-    → CommitsAs files moment left_at failures refusals honest inside new (why inside) event result → CommitsAs files moment left_at failures refusals honest seen new (why seen) named result
-commits_as {D = D} files moment left_at failures refusals honest inside seen new why event named result core_is event_is =
-    subst (λ (at : Core D × Event). CommitsAs files moment left_at failures refusals honest at.0 new (why at.0) at.1 result) (λ i. (core_is i, event_is i))
+    → CommitsAs storage inside new (why inside) event result → CommitsAs storage seen new (why seen) named result
+commits_as {D = D} storage inside seen new why event named result core_is event_is =
+    subst (λ (at : Core D × Event). CommitsAs storage at.0 new (why at.0) at.1 result) (λ i. (core_is i, event_is i))
 
 -- a crash leaves the state after the history
 pub crash_leaves : {D : Type 0} (files : D → Side → File) (opening : Opening) (history : List Made) (c : Core D) → IsBehind opening (commits history) c → KeepsFiles files c → (IsHaltedByTurn c → ⊥)

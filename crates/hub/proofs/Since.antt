@@ -1,5 +1,6 @@
 -- What was committed since the opening of a hub is one run.
-use Rattle.std.proofs.Common.{◌≡◌, ◌≢◌, ◌⊎◌, ◌↔◌, ◌∙◌, ◌<◌, ◌≤◌, ◌+◌, ℕ, Bool, true, false, List, [], ◌∷◌, ◌++◌, length, refl, sym, ap, subst, arith, inl, Err}
+use Rattle.disk.specs.declared.storage.Disk.{Ghosts}
+use Rattle.std.proofs.Common.{◌≡◌, ◌≢◌, ◌⊎◌, ◌↔◌, ◌∙◌, ◌<◌, ◌≤◌, ◌+◌, ℕ, Bool, true, false, List, [], ◌∷◌, ◌++◌, length, refl, sym, ap, subst, arith, inl, Err, IsTrue}
 use Rattle.std.proofs.lemmas.List.{append-nil}
 use Rattle.std.proofs.lemmas.Bool.{false≢true}
 use Rattle.std.specs.List.{AllByRecursion}
@@ -24,22 +25,22 @@ use Rattle.hub.specs.Opening.{opening_of, begun_with}
 use Rattle.hub.specs.Kept.{HasRun, Rests}
 use Rattle.hub.proofs.Keeping.{RanStays}
 
-module _ {D : Type 0} (files : D → Side → File) (moment : D → ℕ) (left_at : D → ℕ → Contents → Type 0) (failures refusals : D → ℕ) (honest : Type 0) (opening : Opening) (left : ℕ → Contents → Type 0) (envs : ℕ) where
+module _ {D : Type 0} (storage : Ghosts D) (opening : Opening) (left : ℕ → Contents → Type 0) (envs : ℕ) where
   -- a call of a halted core changes nothing of the disk
-  rests_same : (old new : Core D) → new.vault.disk ≡ old.vault.disk → is_halted new ≡ is_halted old → Rests moment left_at opening left old → Rests moment left_at opening left new
+  rests_same : (old new : Core D) → new.vault.disk ≡ old.vault.disk → is_halted new ≡ is_halted old → Rests storage.moment storage.left_at opening left old → Rests storage.moment storage.left_at opening left new
   rests_same old new disk halted rests = record {
     halted = halted ∙ rests.halted;
-    since = ap moment disk ∙ rests.since;
-    leaves = λ t contents may. rests.leaves t contents (subst (λ (d : D). left_at d t contents) disk may);
+    since = ap storage.moment disk ∙ rests.since;
+    leaves = λ t contents may. rests.leaves t contents (subst (λ (d : D). storage.left_at d t contents) disk may);
   }
 
-  rests_refused : {T : Type 0} (old new : Core D) (error : CoreError) → Halts {T = T} failures refusals old new (Err error) → Rests moment left_at opening left old → Rests moment left_at opening left new
+  rests_refused : {T : Type 0} (old new : Core D) (error : CoreError) → Halts {T = T} storage.failures storage.refusals old new (Err error) → Rests storage.moment storage.left_at opening left old → Rests storage.moment storage.left_at opening left new
   rests_refused old new error halts rests =
       let is : is_halted new ≡ is_halted old = halts.halts.1 (inl rests.halted) ∙ sym rests.halted in
       rests_same old new (halts.same is).0.disk is rests
 
   -- nothing happens on the disk
-  pub ran_stays : RanStays (HasRun moment left_at failures refusals honest opening left envs)
+  pub ran_stays : RanStays (HasRun storage.moment storage.left_at storage.failures storage.refusals (IsTrue storage.is_honest) opening left envs)
   ran_stays made old new stays same doubt ran = record {
     run = λ none working.
         let begun : Begun = begun_with opening in
@@ -55,14 +56,14 @@ module _ {D : Type 0} (files : D → Side → File) (moment : D → ℕ) (left_a
           generation = λ goes. same.generation ∙ it.generation (sym same.halted ∙ goes);
           end = λ goes. same.end ∙ it.end (sym same.halted ∙ goes);
           crashes = λ on.
-              subst (λ (at : D × List Event). LeavesSince moment left_at begun.moment left at.0 (StandsForBeginning begun.graph begun.environment begun.facts [] (made ++ in_one at.1)))
+              subst (λ (at : D × List Event). LeavesSince storage.moment storage.left_at begun.moment left at.0 (StandsForBeginning begun.graph begun.environment begun.facts [] (made ++ in_one at.1)))
               (λ i. (sym same.disk i, sym doubt i)) (it.crashes on);
           acknowledged = λ on.
-              subst (λ (at : D × List Event). AcknowledgesFrom begun.graph begun.environment begun.facts (left_at at.0) (moment at.0) begun.moment [] made (in_one at.1))
+              subst (λ (at : D × List Event). AcknowledgesFrom begun.graph begun.environment begun.facts (storage.left_at at.0) (storage.moment at.0) begun.moment [] made (in_one at.1))
               (λ i. (sym same.disk i, sym doubt i)) (it.acknowledged on);
-          gates = λ on has. subst (λ (d : D). LeavesSince moment left_at begun.moment left d HasGates) (sym same.disk) (it.gates on has);
-          halts = subst (λ (at : Bool × D). (at.0 ≡ true) ↔ ((begun.failures < failures at.1) ⊎ (refusals at.1 ≢ begun.refusals))) (λ i. (sym same.halted i, sym same.disk i)) it.halts;
-          later = subst (λ (d : D). begun.failures ≤ failures d) (sym same.disk) it.later;
+          gates = λ on has. subst (λ (d : D). LeavesSince storage.moment storage.left_at begun.moment left d HasGates) (sym same.disk) (it.gates on has);
+          halts = subst (λ (at : Bool × D). (at.0 ≡ true) ↔ ((begun.failures < storage.failures at.1) ⊎ (storage.refusals at.1 ≢ begun.refusals))) (λ i. (sym same.halted i, sym same.disk i)) it.halts;
+          later = subst (λ (d : D). begun.failures ≤ storage.failures d) (sym same.disk) it.later;
           some_in_doubt = λ is.
               subst (λ (list : List Event). (0 < length list) × (length (events_of made) + length list ≤ begun.allowance)) (sym doubt) (it.some_in_doubt (sym same.halted ∙ is));
         };
@@ -70,44 +71,44 @@ module _ {D : Type 0} (files : D → Side → File) (moment : D → ℕ) (left_a
   }
 
   -- a core that commits was not halted when the hub was opened
-  no_rest : (made : List Commit) (old : Core D) → is_halted old ≡ false → HasRun moment left_at failures refusals honest opening left envs made old → opening.halted ≡ true → ⊥
+  no_rest : (made : List Commit) (old : Core D) → is_halted old ≡ false → HasRun storage.moment storage.left_at storage.failures storage.refusals (IsTrue storage.is_honest) opening left envs made old → opening.halted ≡ true → ⊥
   no_rest made old goes ran opened = false≢true (sym goes ∙ (ran.rests opened).1.halted)
 
   -- a commit of the environment comes
-  pub ran_put : (number : ℕ) (made later : List Commit) (old new : Core D) → number < envs → is_halted old ≡ false → HasRun moment left_at failures refusals honest opening left envs made old
-      → HasRun moment left_at failures refusals honest opening left envs later new
+  pub ran_put : (number : ℕ) (made later : List Commit) (old new : Core D) → number < envs → is_halted old ≡ false → HasRun storage.moment storage.left_at storage.failures storage.refusals (IsTrue storage.is_honest) opening left envs made old
+      → HasRun storage.moment storage.left_at storage.failures storage.refusals (IsTrue storage.is_honest) opening left envs later new
   ran_put number made later old new below goes ran = record {
     run = λ none _. absurd (omega (arith, below, none));
     rests = λ opened. absurd (no_rest made old goes ran opened);
   }
 
   -- one is refused
-  pub ran_refused_put : {T : Type 0} (number : ℕ) (made : List Commit) (old new : Core D) (error : CoreError) → number < envs → Halts {T = T} failures refusals old new (Err error)
-      → HasRun moment left_at failures refusals honest opening left envs made old → HasRun moment left_at failures refusals honest opening left envs made new
+  pub ran_refused_put : {T : Type 0} (number : ℕ) (made : List Commit) (old new : Core D) (error : CoreError) → number < envs → Halts {T = T} storage.failures storage.refusals old new (Err error)
+      → HasRun storage.moment storage.left_at storage.failures storage.refusals (IsTrue storage.is_honest) opening left envs made old → HasRun storage.moment storage.left_at storage.failures storage.refusals (IsTrue storage.is_honest) opening left envs made new
   ran_refused_put {T} number made old new error below halts ran = record {
     run = λ none _. absurd (omega (arith, below, none));
     rests = λ opened. let before = ran.rests opened in (before.0, rests_refused {T = T} old new error halts before.1);
   }
 
-  module _ (both : AmongBoth) (gates_stay : honest → GatesStay files moment left_at) where
+  module _ (both : AmongBoth) (gates_stay : IsTrue storage.is_honest → GatesStay storage.files storage.moment storage.left_at) where
     -- a commit of ends comes
-    pub ran_more : (made : List Commit) (old new : Core D) (commit : Commit) → is_halted old ≡ false → old.in_doubt ≡ [] → HasRun moment left_at failures refusals honest opening left envs made old
-        → Runs files moment left_at failures refusals honest old new (commit ∷ []) → HasRun moment left_at failures refusals honest opening left envs (made ++ commit ∷ []) new
+    pub ran_more : (made : List Commit) (old new : Core D) (commit : Commit) → is_halted old ≡ false → old.in_doubt ≡ [] → HasRun storage.moment storage.left_at storage.failures storage.refusals (IsTrue storage.is_honest) opening left envs made old
+        → Runs storage old new (commit ∷ []) → HasRun storage.moment storage.left_at storage.failures storage.refusals (IsTrue storage.is_honest) opening left envs (made ++ commit ∷ []) new
     ran_more made old new commit goes settled ran runs = record {
-      run = λ none working. since_joined files moment left_at failures refusals honest both gates_stay (begun_with opening) left old new made (commit ∷ []) goes settled (ran.run none working) runs;
+      run = λ none working. since_joined storage both gates_stay (begun_with opening) left old new made (commit ∷ []) goes settled (ran.run none working) runs;
       rests = λ opened. absurd (no_rest made old goes ran opened);
     }
 
     -- one is refused
-    pub ran_refused : {T : Type 0} (made : List Commit) (old new : Core D) (error : CoreError) → (is_halted old ≡ false → old.in_doubt ≡ []) → HasRun moment left_at failures refusals honest opening left envs made old
-        → Stays old new → Halts {T = T} failures refusals old new (Err error) → (is_halted old ≡ false → Runs files moment left_at failures refusals honest old new []) → HasRun moment left_at failures refusals honest opening left envs made new
+    pub ran_refused : {T : Type 0} (made : List Commit) (old new : Core D) (error : CoreError) → (is_halted old ≡ false → old.in_doubt ≡ []) → HasRun storage.moment storage.left_at storage.failures storage.refusals (IsTrue storage.is_honest) opening left envs made old
+        → Stays old new → Halts {T = T} storage.failures storage.refusals old new (Err error) → (is_halted old ≡ false → Runs storage old new []) → HasRun storage.moment storage.left_at storage.failures storage.refusals (IsTrue storage.is_honest) opening left envs made new
     ran_refused {T} made old new error settled ran stays halts runs = by_case (is_halted old) refl
       where
-        by_case : (was : Bool) → is_halted old ≡ was → HasRun moment left_at failures refusals honest opening left envs made new
+        by_case : (was : Bool) → is_halted old ≡ was → HasRun storage.moment storage.left_at storage.failures storage.refusals (IsTrue storage.is_honest) opening left envs made new
         by_case false goes = record {
           run = λ none working.
-              subst (λ (list : List Commit). RunsSince moment left_at failures refusals honest (begun_with opening) left new list) (append-nil made)
-              (since_joined files moment left_at failures refusals honest both gates_stay (begun_with opening) left old new made [] goes (settled goes) (ran.run none working) (runs goes));
+              subst (λ (list : List Commit). RunsSince storage.moment storage.left_at storage.failures storage.refusals (IsTrue storage.is_honest) (begun_with opening) left new list) (append-nil made)
+              (since_joined storage both gates_stay (begun_with opening) left old new made [] goes (settled goes) (ran.run none working) (runs goes));
           rests = λ opened. absurd (no_rest made old goes ran opened);
         }
         by_case true halted =
@@ -125,16 +126,16 @@ as_named moment left_at left d P alike leaves = record {
 }
 
 -- nothing was committed yet
-pub ran_nothing : {D : Type 0} (files : D → Side → File) (moment : D → ℕ) (left_at : D → ℕ → Contents → Type 0) (failures refusals : D → ℕ) (honest : Type 0) (opening : Opening) (left : ℕ → Contents → Type 0) (envs : ℕ) (c : Core D)
-    → (honest → RestLeaves files moment left_at) → (honest → GatesRest files moment left_at) → (honest → KeepsFiles files c) → (is_halted c ≡ false → c.in_doubt ≡ [])
-    → opening ≡ opening_of files moment failures refusals c → ((t : ℕ) (contents : Contents) → left t contents ↔ left_at c.vault.disk t contents) → HasRun moment left_at failures refusals honest opening left envs [] c
-ran_nothing {D = D} files moment left_at failures refusals honest opening left envs c rest_leaves gates_rest kept settled opened alike = record {
+pub ran_nothing : {D : Type 0} (storage : Ghosts D) (opening : Opening) (left : ℕ → Contents → Type 0) (envs : ℕ) (c : Core D)
+    → (IsTrue storage.is_honest → RestLeaves storage.files storage.moment storage.left_at) → (IsTrue storage.is_honest → GatesRest storage.files storage.moment storage.left_at) → (IsTrue storage.is_honest → KeepsFiles storage.files c) → (is_halted c ≡ false → c.in_doubt ≡ [])
+    → opening ≡ opening_of storage.files storage.moment storage.failures storage.refusals c → ((t : ℕ) (contents : Contents) → left t contents ↔ storage.left_at c.vault.disk t contents) → HasRun storage.moment storage.left_at storage.failures storage.refusals (IsTrue storage.is_honest) opening left envs [] c
+ran_nothing {D = D} storage opening left envs c rest_leaves gates_rest kept settled opened alike = record {
   run = λ none working.
       let goes : is_halted c ≡ false = ap (λ (o : Opening). o.halted) (sym opened) ∙ working in
-      let here : Runs files moment left_at failures refusals honest c c [] =
-      rests files moment left_at failures refusals honest rest_leaves gates_rest c c goes kept
+      let here : Runs storage c c [] =
+      rests storage rest_leaves gates_rest c c goes kept
       (record { graph = refl; facts = λ _. refl; environment = λ _. refl; allowance = refl; latest = refl; generation = refl; end = refl; disk = refl; halted = goes; settled = settled goes }) in
-      subst (λ (o : Opening). RunsSince moment left_at failures refusals honest (begun_with o) left c []) (sym opened) (record {
+      subst (λ (o : Opening). RunsSince storage.moment storage.left_at storage.failures storage.refusals (IsTrue storage.is_honest) (begun_with o) left c []) (sym opened) (record {
         are_ends = here.are_ends;
         legal = here.legal;
         graph = here.graph;
@@ -144,9 +145,9 @@ ran_nothing {D = D} files moment left_at failures refusals honest opening left e
         latest = here.latest;
         generation = here.generation;
         end = here.end;
-        crashes = λ on. as_named moment left_at left c.vault.disk _ alike (here.crashes on);
+        crashes = λ on. as_named storage.moment storage.left_at left c.vault.disk _ alike (here.crashes on);
         acknowledged = here.acknowledged;
-        gates = λ on has. as_named moment left_at left c.vault.disk _ alike (here.gates on has);
+        gates = λ on has. as_named storage.moment storage.left_at left c.vault.disk _ alike (here.gates on has);
         halts = here.halts;
         later = here.later;
         some_in_doubt = here.some_in_doubt;

@@ -12,7 +12,7 @@ use Rattle.terms.specs.declared.name.Inst.{Inst}
 use Rattle.graph.specs.Fits.{IsAbsent}
 use Rattle.machine.specs.declared.refusal.Refusal.{Refusal}
 use Rattle.machine.specs.Results.{IsBodyOf, ReadsStay}
-use Rattle.steplang.specs.declared.outcome.Parked.{Parked}
+use Rattle.steplang.specs.Running.{Asking}
 use Rattle.commit.specs.Came.{IsParkedIn, IsOutcomeIn}
 use Rattle.commit.specs.Steps.{IsParkedOf, RefusesPark}
 use Rattle.commit.specs.Outcome.{IsOutcomeOf}
@@ -129,7 +129,7 @@ pub seen_stays : AmongBoth → FactsGoOn → {D : Type 0} (opening : Opening) (h
 seen_stays both go_on opening history known c behind before fact there = ap (λ (X : Facts). X fact) behind.facts ∙ stays both go_on opening known.seen (commits history) before.seen fact there
 
 -- what a result read is there for the core, and its body is that of the core's graph
-pub parked_there : AmongBoth → FactsGoOn → ReadsStay → {D : Type 0} (opening : Opening) (history : List Made) (known : Known) (c : Core D) (task : Inst) (parked : Parked) → IsBehind opening (commits history) c → IsInHistory history known
+pub parked_there : AmongBoth → FactsGoOn → ReadsStay → {D : Type 0} (opening : Opening) (history : List Made) (known : Known) (c : Core D) (task : Inst) (parked : Asking) → IsBehind opening (commits history) c → IsInHistory history known
     → IsParkedIn opening.graph (facts_behind opening known.seen) task parked → IsParkedOf c task parked
 parked_there both go_on stay opening history known c task parked behind before is = record {
   instance_is = is.instance_is;

@@ -1,13 +1,20 @@
 //! What is seen of a hub's work without its lock.
-use std::sync::atomic::{AtomicUsize, Ordering};
+use std::sync::Wait;
+use std::sync::atomic::{AtomicU64, AtomicUsize, Ordering};
+use std::time::Duration;
 
-/// How many instances were ready and how many ran when the lock was last left, and how many batches were committed so far. Whoever shares out the work looks
+// No worker leads.
+const NOBODY: u64 = 0;
+
+/// How many instances were ready and how many ran when the lock was last left, how many batches were committed so far, and which worker leads. Whoever shares out the work looks
 /// at it; no clause rests on it.
 #[derive(Drop)]
 pub(crate) struct Glance {
     ready: AtomicUsize,
     running: AtomicUsize,
     batches: AtomicUsize,
+    // The number of the worker that leads, and 1 more; or `NOBODY`.
+    lead: AtomicU64,
 }
 
 impl Glance {
@@ -17,6 +24,7 @@ impl Glance {
             ready: AtomicUsize::new(ready),
             running: AtomicUsize::new(0),
             batches: AtomicUsize::new(0),
+            lead: AtomicU64::new(NOBODY),
         }
     }
 
@@ -45,5 +53,35 @@ impl Glance {
 
     pub(crate) fn batches(&self) -> usize {
         self.batches.load(Ordering::SeqCst)
+    }
+
+    /// Lets the worker with this number lead, unless one leads. Says whether it does now.
+    pub(crate) fn lead(&self, number: usize) -> bool {
+        let own = (number as u64).saturating_add(1);
+        let now = self.lead.load(Ordering::SeqCst);
+        if now != NOBODY {
+            return now == own;
+        }
+        self.lead
+            .compare_exchange(NOBODY, own, Ordering::SeqCst, Ordering::SeqCst)
+            .is_ok()
+    }
+
+    /// No worker leads from now on. Those that sleep meanwhile are woken.
+    pub(crate) fn end_lead(&self) {
+        self.lead.store(NOBODY, Ordering::SeqCst);
+        self.lead.wake_all();
+    }
+
+    /// Sleeps until no worker leads, or for this many milliseconds. If none leads now, it returns at once.
+    pub(crate) fn nap<R: Wait>(&self, rt: &R, millis: u64) {
+        let now = self.lead.load(Ordering::SeqCst);
+        if now != NOBODY {
+            self.lead.park_timeout(
+                rt,
+                (now & 0xffff_ffff) as u32,
+                Duration::from_millis(millis),
+            );
+        }
     }
 }

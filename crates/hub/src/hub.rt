@@ -227,11 +227,11 @@ impl<J: Naming, D: Disk> Hub<J, D> {
         rt: &R,
         pass: &mut WorkPass<J>,
         task: Task,
-        parked: Parked<'_>,
+        parked: &Parked<'_>,
     ) -> Result<(), TaskError>
-        requires { IsParkedIn J.opening.graph (facts_behind J.opening pass.old.seen) task parked }
+        requires { IsParkedIn J.opening.graph (facts_behind J.opening pass.old.seen) task parked.now }
         ensures seen { Sees J.opening pass.old pass.new × AddsNothing pass.old pass.new }
-        ensures refused { OnTask result (λ back. back ≡ task) (λ answer. IfErr answer (RefusesWait J.opening pass.new parked.entry.address)) }
+        ensures refused { OnTask result (λ back. back ≡ task) (λ answer. IfErr answer (RefusesWait J.opening pass.new parked.now.address)) }
     {
         let mut kept = self.locked(rt);
         let answer = kept.park(&self.board, pass, task, parked);
@@ -327,6 +327,22 @@ impl<J: Naming, D: Disk> Hub<J, D> {
     /// How often outcomes were given to `finish` and `finish_all`.
     pub fn batches(&self) -> usize {
         self.glance.batches()
+    }
+
+    /// Lets the worker with this number lead, unless one leads; says whether it does now. At most one worker leads at a time: for workers that agree that one of them alone does a certain work.
+    /// It waits for nobody, and no clause says anything of it.
+    pub fn lead(&self, number: usize) -> bool {
+        self.glance.lead(number)
+    }
+
+    /// No worker leads from now on. It is for the one that leads.
+    pub fn end_lead(&self) {
+        self.glance.end_lead();
+    }
+
+    /// Sleeps until no worker leads, or for this many milliseconds.
+    pub fn nap<R: Wait>(&self, rt: &R, millis: u64) {
+        self.glance.nap(rt, millis);
     }
 
     /// The graph; bodies of it are run outside the lock.

@@ -111,7 +111,7 @@ impl<J: Naming, D: Disk> Kept<J, D> {
         addr: Addr,
         value: i64,
     ) -> Result<(), CoreError>
-        ensures core { CommitsAs D.files D.moment D.left_at D.failures D.refusals (IsTrue D.is_honest) self.old.core self.new.core (RefusesItem (graph self.old.core) (facts self.old.core) addr) (EnvItem addr value) result }
+        ensures core { CommitsAs D.Disk self.old.core self.new.core (RefusesItem (graph self.old.core) (facts self.old.core) addr) (EnvItem addr value) result }
         ensures history { OnOk result (Writes (EnvItem addr value ∷ []) self.old.history self.new.history pass.old pass.new) }
         ensures seen { Sees J.opening pass.old pass.new }
         ensures ok { OnOk result (Adds (EnvItem addr value ∷ []) pass.old pass.new) }
@@ -144,7 +144,7 @@ impl<J: Naming, D: Disk> Kept<J, D> {
         pass: &mut EnvPass<J>,
         tag: Tag,
     ) -> Result<(), CoreError>
-        ensures core { CommitsAs D.files D.moment D.left_at D.failures D.refusals (IsTrue D.is_honest) self.old.core self.new.core (RefusesTag (graph self.old.core) (facts self.old.core) tag) (EnvTag tag) result }
+        ensures core { CommitsAs D.Disk self.old.core self.new.core (RefusesTag (graph self.old.core) (facts self.old.core) tag) (EnvTag tag) result }
         ensures history { OnOk result (Writes (EnvTag tag ∷ []) self.old.history self.new.history pass.old pass.new) }
         ensures seen { Sees J.opening pass.old pass.new }
         ensures ok { OnOk result (Adds (EnvTag tag ∷ []) pass.old pass.new) }
@@ -260,13 +260,13 @@ impl<J: Naming, D: Disk> Kept<J, D> {
         board: &Board<J>,
         pass: &mut WorkPass<J>,
         task: Task,
-        parked: Parked<'_>,
+        parked: &Parked<'_>,
     ) -> Result<(), TaskError>
-        requires { IsParkedIn J.opening.graph (facts_behind J.opening pass.old.seen) task parked }
-        ensures core { OnTask result (IsForeign self.old self.new task) (λ answer. IsMade self.old task (Parks self.old.core self.new.core task parked.entry.address answer)) }
+        requires { IsParkedIn J.opening.graph (facts_behind J.opening pass.old.seen) task parked.now }
+        ensures core { OnTask result (IsForeign self.old self.new task) (λ answer. IsMade self.old task (Parks self.old.core self.new.core task parked.now.address answer)) }
         ensures history { (self.new.history ≡ self.old.history) × Shows self.old.history pass.old pass.new }
         ensures seen { Sees J.opening pass.old pass.new × AddsNothing pass.old pass.new }
-        ensures refused { OnTask result (λ back. back ≡ task) (λ answer. IfErr answer (RefusesWait J.opening pass.new parked.entry.address)) }
+        ensures refused { OnTask result (λ back. back ≡ task) (λ answer. IfErr answer (RefusesWait J.opening pass.new parked.now.address)) }
     {
         facts_are_told_apart();
         facts_go_on();
@@ -310,7 +310,7 @@ impl<J: Naming, D: Disk> Kept<J, D> {
         outcome: Outcome<'_>,
     ) -> Result<Committed, TaskError>
         requires { IsOutcomeIn J.opening.graph (facts_behind J.opening pass.old.seen) task outcome }
-        ensures core { OnTask result (IsForeign self.old self.new task) (λ answer. IsMade self.old task (Ends D.files D.moment D.left_at D.failures D.refusals (IsTrue D.is_honest) self.old.core self.new.core task outcome.entry answer)) }
+        ensures core { OnTask result (IsForeign self.old self.new task) (λ answer. IsMade self.old task (Ends D.Disk self.old.core self.new.core task outcome.entry answer)) }
         ensures history { IfOk result (λ committed. Writes (end_of committed task outcome.entry ∷ []) self.old.history self.new.history pass.old pass.new) }
         ensures seen { Sees J.opening pass.old pass.new }
         ensures ok { IfOk result (λ committed. MayAnswer outcome.entry committed × Adds (end_of committed task outcome.entry ∷ []) pass.old pass.new) }

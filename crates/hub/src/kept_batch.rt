@@ -29,7 +29,7 @@ impl<J: Naming, D: Disk> Kept<J, D> {
         ahead: &[u8],
     ) -> Result<Ended, BatchError<'a>>
         requires { HaveOutcomes J.opening.graph (facts_behind J.opening pass.old.seen) batch.tasks batch.outcomes }
-        ensures core { OnBatch result (IsForeignBatch self.old self.new batch.entry) (λ answer. AreMade self.old batch.entry.tasks (EndsAll D.files D.moment D.left_at D.failures D.refusals (IsTrue D.is_honest) self.old.core self.new.core batch.entry.tasks (ends_said batch.entry) answer)) }
+        ensures core { OnBatch result (IsForeignBatch self.old self.new batch.entry) (λ answer. AreMade self.old batch.entry.tasks (EndsAll D.Disk self.old.core self.new.core batch.entry.tasks (ends_said batch.entry) answer)) }
         ensures history { IfOk result (λ ended. Writes (cut ended (ends_said batch.entry)) self.old.history self.new.history pass.old pass.new) }
         ensures seen { Sees J.opening pass.old pass.new }
         ensures ok { IfOk result (AddsTogether J.opening (ends_said batch.entry) pass.old pass.new) }

@@ -1,5 +1,6 @@
 -- What commits that come one after another make of the commit order, and what a crash leaves at each moment of them.
-use Rattle.std.proofs.Common.{◌≡◌, ◌∙◌, ◌↔◌, ap, refl, sym, subst, ℕ, false, List, [], ◌++◌}
+use Rattle.disk.specs.declared.storage.Disk.{Ghosts}
+use Rattle.std.proofs.Common.{◌≡◌, ◌∙◌, ◌↔◌, ap, refl, sym, subst, ℕ, false, List, [], ◌++◌, IsTrue}
 use Rattle.std.proofs.lemmas.List.{append-nil, append_assoc}
 use Rattle.disk.specs.declared.side.Side.{Side}
 use Rattle.disk.specs.File.{File}
@@ -59,12 +60,12 @@ from_start both g made first later contents it =
     }
 
 module _
-    {D : Type 0} (files : D → Side → File) (moment : D → ℕ) (left_at : D → ℕ → Contents → Type 0) (failures refusals : D → ℕ) (honest : Type 0) (on : honest) (both : AmongBoth)
-    (now : (disk : D) (contents : Contents) → left_at disk (moment disk) contents ↔ MayLeaveNow (files disk) contents) (reads : (disk : D) → MayLeaveNow (files disk) (contents_of (files disk)))
-    (held : HeldLeaves files moment left_at) (appends : AppendLeaves files moment left_at) (g : Graph)
+    {D : Type 0} (storage : Ghosts D) (on : (IsTrue storage.is_honest)) (both : AmongBoth)
+    (now : (disk : D) (contents : Contents) → storage.left_at disk (storage.moment disk) contents ↔ MayLeaveNow (storage.files disk) contents) (reads : (disk : D) → MayLeaveNow (storage.files disk) (contents_of (storage.files disk)))
+    (held : HeldLeaves storage.files storage.moment storage.left_at) (appends : AppendLeaves storage.files storage.moment storage.left_at) (g : Graph)
     (h : History) (old new : Core D) (commits : List Commit)
-    (stood : Stood files moment left_at failures refusals honest on both now reads held appends g h old) (keeps : Keeps files honest new) (legal : IsLegal g h)
-    (went : Went files moment left_at failures refusals honest old new commits)
+    (stood : Stood storage on both now reads held appends g h old) (keeps : Keeps storage.files (IsTrue storage.is_honest) new) (legal : IsLegal g h)
+    (went : Went storage old new commits)
   where
     abbrev after : History
     after = with_commits h commits new.in_doubt
@@ -82,20 +83,20 @@ module _
     pub part_legal : IsLegal g in_part
     part_legal = subst (λ (list : List Event). AreLegalFrom g nothing list) (sym (events_after h.made commits new.in_doubt)) both_legal
 
-    -- at each moment a crash leaves a prefix of the commits
-    pub leaving : LeavesAt files moment left_at failures refusals honest on both now reads held appends g in_part old.vault.disk new.vault.disk
+    -- at each storage.moment a crash leaves a prefix of the commits
+    pub leaving : LeavesAt storage on both now reads held appends g in_part old.vault.disk new.vault.disk
     leaving =
         let pending = commits ++ in_one new.in_doubt in
         let crashes =
-        carried g h old stood.has (λ k E X. LeavesOnly moment left_at old.vault.disk new.vault.disk (StandsForBeginning k E X [] pending)) (went.crashes on)
+        carried g h old stood.has (λ k E X. LeavesOnly storage.moment storage.left_at old.vault.disk new.vault.disk (StandsForBeginning k E X [] pending)) (went.crashes on)
         in
-        both_hold files moment left_at failures refusals honest on both now reads held appends g old.vault.disk new.vault.disk (MayStand g in_part) HasGates
-        (weakened moment left_at old.vault.disk new.vault.disk (StandsForBeginning g (environment_behind nothing h.made) (facts_behind nothing h.made) [] pending) (MayStand g in_part) crashes
+        both_hold storage on both now reads held appends g old.vault.disk new.vault.disk (MayStand g in_part) HasGates
+        (weakened storage.moment storage.left_at old.vault.disk new.vault.disk (StandsForBeginning g (environment_behind nothing h.made) (facts_behind nothing h.made) [] pending) (MayStand g in_part) crashes
         (λ contents stands. subst (λ (commits : List Commit). StandsForBeginning g nothing nothing commits pending contents) (append-nil h.made) (from_start both g h.made [] pending contents stands)))
-        (went.gates on (gated files moment left_at failures refusals honest on both now reads held appends g h old.vault.disk stood.leaves))
+        (went.gates on (gated storage on both now reads held appends g h old.vault.disk stood.leaves))
 
     -- at the end it leaves all of them, perhaps with the one in doubt
-    pub stood_after : (is_halted new ≡ false → new.in_doubt ≡ []) → Stood files moment left_at failures refusals honest on both now reads held appends g after new
+    pub stood_after : (is_halted new ≡ false → new.in_doubt ≡ []) → Stood storage on both now reads held appends g after new
     stood_after settled = record {
       has = record {
         graph = went.graph ∙ stood.has.graph;
@@ -108,10 +109,10 @@ module _
       };
       leaves = λ contents may.
           let was = (now new.vault.disk contents).1 may in
-          let here = all_at_last (graph old) (environment old) (facts old) (left_at new.vault.disk) (moment new.vault.disk) (moment old.vault.disk) [] commits (in_one new.in_doubt) (went.crashes on).later (went.acknowledged on) contents was in (
+          let here = all_at_last (graph old) (environment old) (facts old) (storage.left_at new.vault.disk) (storage.moment new.vault.disk) (storage.moment old.vault.disk) [] commits (in_one new.in_doubt) (went.crashes on).later (went.acknowledged on) contents was in (
             from_start both g h.made commits (in_one new.in_doubt) contents
                 (carried g h old stood.has (λ k E X. StandsForBeginning k E X commits (in_one new.in_doubt) contents) here),
-            (left_at_end files moment left_at failures refusals honest on both now reads held appends g in_part old.vault.disk new.vault.disk leaving contents may).1,
+            (left_at_end storage on both now reads held appends g in_part old.vault.disk new.vault.disk leaving contents may).1,
           );
       keeps = keeps;
     }

@@ -1,4 +1,5 @@
 -- What a store means after moves.
+use Rattle.disk.specs.declared.storage.Disk.{Ghosts}
 use Rattle.std.proofs.Common.{false, ◌≡◌, ◌∙◌, ◌⊎◌, ap, sym, refl, subst, inl, inr, ℕ, true, List, [], ◌++◌, Option, None, Some}
 use Rattle.std.proofs.lemmas.Bool.{false≢true}
 use Rattle.std.proofs.lemmas.List.{append_assoc}
@@ -84,9 +85,9 @@ module _ (as_set : LegalAsSet) (is_within : ReachedIsWithin) (meaning : ReachedI
         );
       }
 
-  pub stands_within : {D : Type 0} (files : D → Side → File) (moment : D → ℕ) (left_at : D → ℕ → Contents → Type 0) (failures refusals : D → ℕ) (honest : Type 0)
-      → OneStore → (h : History) (disk : D) → Leaves files g h disk → IsLegal g h → StandsWithin files moment left_at failures refusals honest g disk
-  stands_within files moment left_at failures refusals honest one h disk leaves legal contents other E X may stands =
+  pub stands_within : {D : Type 0} (storage : Ghosts D)
+      → OneStore → (h : History) (disk : D) → Leaves storage.files g h disk → IsLegal g h → StandsWithin storage g disk
+  stands_within storage one h disk leaves legal contents other E X may stands =
       let it = (leaves contents may).0 in
       let made = h.made ++ it.made in
       let same = one contents g other (environment_behind nothing made) E (facts_behind nothing made) X it.stands stands in

@@ -1,5 +1,6 @@
 -- Openings and crashes.
-use Rattle.std.proofs.Common.{◌≡◌, ◌∙◌, ◌⊎◌, ◌↔◌, ap, sym, refl, subst, inl, inr, ℕ, List, [], ◌++◌, Ok, Err}
+use Rattle.disk.specs.declared.storage.Disk.{Ghosts}
+use Rattle.std.proofs.Common.{◌≡◌, ◌∙◌, ◌⊎◌, ◌↔◌, ap, sym, refl, subst, inl, inr, ℕ, List, [], ◌++◌, Ok, Err, IsTrue}
 use Rattle.std.proofs.lemmas.List.{append-nil, append_assoc}
 use Rattle.disk.specs.declared.side.Side.{Side}
 use Rattle.disk.specs.File.{File}
@@ -30,48 +31,48 @@ abbrev pub with_found : History → List Commit → History
 with_found h found = record { made = h.made ++ found; doubt = [] }
 
 module _
-    {D : Type 0} (files : D → Side → File) (moment : D → ℕ) (left_at : D → ℕ → Contents → Type 0) (failures refusals : D → ℕ) (honest : Type 0) (on : honest) (both : AmongBoth)
-    (now : (disk : D) (contents : Contents) → left_at disk (moment disk) contents ↔ MayLeaveNow (files disk) contents) (reads : (disk : D) → MayLeaveNow (files disk) (contents_of (files disk)))
-    (held : HeldLeaves files moment left_at) (appends : AppendLeaves files moment left_at) (g : Graph)
+    {D : Type 0} (storage : Ghosts D) (on : (IsTrue storage.is_honest)) (both : AmongBoth)
+    (now : (disk : D) (contents : Contents) → storage.left_at disk (storage.moment disk) contents ↔ MayLeaveNow (storage.files disk) contents) (reads : (disk : D) → MayLeaveNow (storage.files disk) (contents_of (storage.files disk)))
+    (held : HeldLeaves storage.files storage.moment storage.left_at) (appends : AppendLeaves storage.files storage.moment storage.left_at) (g : Graph)
   where
     abbrev StoodHere : History → Core D → Type 0
-    StoodHere = Stood files moment left_at failures refusals honest on both now reads held appends g
+    StoodHere = Stood storage on both now reads held appends g
 
     abbrev LeavesHere : History → D → D → Type 0
-    LeavesHere = LeavesAt files moment left_at failures refusals honest on both now reads held appends g
+    LeavesHere = LeavesAt storage on both now reads held appends g
 
-    -- a crash at a moment when a crash leaves what is known
-    pub crashed : (h : History) (old new disk : D) → LeavesHere h old new → IsLeft files moment left_at old new disk → Leaves files g h disk
+    -- a crash at a storage.moment when a crash leaves what is known
+    pub crashed : (h : History) (old new disk : D) → LeavesHere h old new → IsLeft storage.files storage.moment storage.left_at old new disk → Leaves storage.files g h disk
     crashed h old new disk leaving left contents may = leaving.each left.struck contents left.begun left.ended (left.crash contents may)
 
     -- calls that only read
-    pub only_read : (h : History) (disk new : D) → Leaves files g h disk → OnlyReads files moment left_at disk new → Leaves files g h new
+    pub only_read : (h : History) (disk new : D) → Leaves storage.files g h disk → OnlyReads storage.files storage.moment storage.left_at disk new → Leaves storage.files g h new
     only_read h disk new leaves reading contents may = leaves contents (reading.left contents may)
 
-    pub cut_reading : (h : History) (disk new left : D) → Leaves files g h disk → OnlyReads files moment left_at disk new → IsLeft files moment left_at disk new left → Leaves files g h left
+    pub cut_reading : (h : History) (disk new left : D) → Leaves storage.files g h disk → OnlyReads storage.files storage.moment storage.left_at disk new → IsLeft storage.files storage.moment storage.left_at disk new left → Leaves storage.files g h left
     cut_reading h disk new left leaves reading was contents may = leaves contents (reading.any_moment.each was.struck contents was.begun was.ended (was.crash contents may))
 
     -- a new store
-    pub created : GatesRest files moment left_at → (text : List ℕ) (core : Core D) → graph core ≡ g → IsCreated files honest text core → Keeps files honest core → StoodHere begun_order core
+    pub created : GatesRest storage.files storage.moment storage.left_at → (text : List ℕ) (core : Core D) → graph core ≡ g → IsCreated storage.files (IsTrue storage.is_honest) text core → Keeps storage.files (IsTrue storage.is_honest) core → StoodHere begun_order core
     created rest text core is is_created keeps =
         let opened = is_created.opened in
         let has : Has g begun_order core = record { graph = is; facts = is_created.facts; environment = is_created.environment; doubt = ap in_one (sym opened.in_doubt); settled = λ _. refl } in
         let gates = rest core.vault (graph core) (environment core) (facts core) ((keeps.kept on).holds opened.working) (is_created.gates on) in
         record {
           has = has;
-          leaves = held_now files moment left_at failures refusals honest on both now reads held appends g begun_order core has keeps opened.working
-              (λ contents may. gates.each (moment core.vault.disk) contents gates.later gates.later ((now core.vault.disk contents).1 may));
+          leaves = held_now storage on both now reads held appends g begun_order core has keeps opened.working
+              (λ contents may. gates.each (storage.moment core.vault.disk) contents gates.later gates.later ((now core.vault.disk contents).1 may));
           keeps = keeps;
         }
 
     -- an opening that returned a core: it found a prefix of what was in doubt
-    pub opened_well : OneStore → (h : History) (disk : D) (core : Core D) → Leaves files g h disk → IsLegal g h → OpensAs files moment left_at failures refusals honest disk (Ok core) → Keeps files honest core
+    pub opened_well : OneStore → (h : History) (disk : D) (core : Core D) → Leaves storage.files g h disk → IsLegal g h → OpensAs storage disk (Ok core) → Keeps storage.files (IsTrue storage.is_honest) core
         → (found : List Commit) × (lost : List Commit) × (h.doubt ≡ found ++ lost) × StoodHere (with_found h found) core × IsLegal g (with_found h found)
     opened_well one h disk core leaves legal opens keeps =
-        let before = leaves (contents_of (files disk)) (reads disk) in
+        let before = leaves (contents_of (storage.files disk)) (reads disk) in
         let stands = before.0 in
         let made = h.made ++ stands.made in
-        let same = one (contents_of (files disk)) g (graph core) (environment_behind nothing made) (environment core) (facts_behind nothing made) (facts core) stands.stands (opens.finds on) in
+        let same = one (contents_of (storage.files disk)) g (graph core) (environment_behind nothing made) (environment core) (facts_behind nothing made) (facts core) stands.stands (opens.finds on) in
         let working = opens.opened.working in
         let has : Has g (with_found h stands.made) core = record { graph = sym same.0; facts = λ fact. sym (same.2 fact); environment = λ fact. sym (same.1 fact); doubt = ap in_one (sym opens.opened.in_doubt); settled = λ _. refl } in
         let whole : h.made ++ h.doubt ≡ made ++ stands.later = ap (λ (doubt : List Commit). h.made ++ doubt) stands.beginning ∙ sym (append_assoc h.made stands.made stands.later) in (
@@ -80,7 +81,7 @@ module _
           stands.beginning,
           record {
             has = has;
-            leaves = held_now files moment left_at failures refusals honest on both now reads held appends g (with_found h stands.made) core has keeps working
+            leaves = held_now storage on both now reads held appends g (with_found h stands.made) core has keeps working
                 (λ contents may. (leaves contents ((opens.only_reads on).left contents may)).1);
             keeps = keeps;
           },
@@ -99,7 +100,7 @@ module _
     errs Halted may something = absurd (may.1 refl)
     errs Exists may something = absurd (may.2 refl)
 
-    pub opens_or_errs : (h : History) (disk : D) → Leaves files g h disk → OpensOrErrs files moment left_at failures refusals honest disk
+    pub opens_or_errs : (h : History) (disk : D) → Leaves storage.files g h disk → OpensOrErrs storage disk
     opens_or_errs h disk leaves (Ok core) opens = tt
     opens_or_errs h disk leaves (Err refused) opens =
-        errs refused.error opens.errors (λ says. (opens.tells on).nothing says _ _ _ (leaves (contents_of (files disk)) (reads disk)).0.stands)
+        errs refused.error opens.errors (λ says. (opens.tells on).nothing says _ _ _ (leaves (contents_of (storage.files disk)) (reads disk)).0.stands)

@@ -1,4 +1,5 @@
 -- The calls of a core that change it, each with its arguments and what it returned; and the commits that they acknowledge.
+use Rattle.disk.specs.declared.storage.Disk.{Ghosts}
 use Rattle.std.specs.Prelude.{◌≡◌, ◌<◌, ℕ, ℤ, length, List, [], ◌∷◌, Option, Result, Ok, Err}
 use Rattle.disk.specs.declared.side.Side.{Side}
 use Rattle.disk.specs.File.{File}
@@ -41,17 +42,17 @@ pub data Call : Type 0 where
 -- ---- what they do
 
 -- The call does what its contract says, from one core to the next.
-module _ {D : Type 0} (files : D → Side → File) (moment : D → ℕ) (left_at : D → ℕ → Contents → Type 0) (failures refusals : D → ℕ) (honest : Type 0) where
+module _ {D : Type 0} (storage : Ghosts D) where
   abbrev pub Does : Call → (old new : Core D) → Type 0
-  Does (puts_item address value result) old new = CommitsAs files moment left_at failures refusals honest old new (RefusesItem (graph old) (facts old) address) (EnvItem address value) result
-  Does (puts_tag name result) old new = CommitsAs files moment left_at failures refusals honest old new (RefusesTag (graph old) (facts old) name) (EnvTag name) result
+  Does (puts_item address value result) old new = CommitsAs storage old new (RefusesItem (graph old) (facts old) address) (EnvItem address value) result
+  Does (puts_tag name result) old new = CommitsAs storage old new (RefusesTag (graph old) (facts old) name) (EnvTag name) result
   Does (claims at result) old new = Claims old new at result
   Does (parks instance address result) old new = Parks old new instance address result
   Does (releases instance) old new = Moves old new instance Ready
   Does (wakes puts) old new = Wakes old new puts
-  Does (finishes instance outcome result) old new = Ends files moment left_at failures refusals honest old new instance outcome result
-  Does (finishes_all tasks ends result) old new = EndsAll files moment left_at failures refusals honest old new tasks ends result
-  Does (turns result) old new = TurnsAs files moment left_at failures refusals honest old new result
+  Does (finishes instance outcome result) old new = Ends storage old new instance outcome result
+  Does (finishes_all tasks ends result) old new = EndsAll storage old new tasks ends result
+  Does (turns result) old new = TurnsAs storage old new result
   Does (allows count result) old new = SetsAllowance old new count result
 
 -- ---- what they commit

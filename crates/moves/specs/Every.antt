@@ -1,5 +1,6 @@
 -- The theorem: what holds after every list of moves of a store.
-use Rattle.std.specs.Prelude.{◌≡◌, ◌⊎◌, ℕ, true, List, [], ◌∷◌, ◌++◌, Some, Result, IfErr}
+use Rattle.disk.specs.declared.storage.Disk.{Ghosts}
+use Rattle.std.specs.Prelude.{◌≡◌, ◌⊎◌, ℕ, true, List, [], ◌∷◌, ◌++◌, Some, Result, IfErr, IsTrue}
 use Rattle.disk.specs.declared.side.Side.{Side}
 use Rattle.disk.specs.File.{File}
 use Rattle.disk.specs.Time.{Contents, MayLeaveNow}
@@ -48,14 +49,14 @@ pub record TellsMeaning {D : Type 0} (g : Graph) (c : Core D) : Type 0 where
   pub unfinished : (blocked : ℕ) → TellsStatus c (Quiet blocked) → (instance : Inst) (address : Addr) → IsUnfinished g (environment c) instance address → (at : Addr) × (state_of c instance ≡ Some (Waiting at))
   pub stopped : (instance : Inst) (kind : FaultKind) → TellsStatus c (Stopped instance kind) → Meaning g (environment c) (bad instance kind) × NoneIsQuiet g (environment c)
 
-module _ {D : Type 0} (files : D → Side → File) (moment : D → ℕ) (left_at : D → ℕ → Contents → Type 0) (failures refusals : D → ℕ) (honest : Type 0) where
-  -- whatever the files stand for after a crash now, it is of this graph, and within its meaning
+module _ {D : Type 0} (storage : Ghosts D) where
+  -- whatever the storage.files stand for after a crash now, it is of this graph, and within its meaning
   abbrev pub StandsWithin : Graph → D → Type 0
-  StandsWithin g disk = (contents : Contents) (other : Graph) (E X : Facts) → MayLeaveNow (files disk) contents → Stands contents other E X → (other ≡ g) × IsWithin g E X
+  StandsWithin g disk = (contents : Contents) (other : Graph) (E X : Facts) → MayLeaveNow (storage.files disk) contents → Stands contents other E X → (other ≡ g) × IsWithin g E X
 
   -- an opening returns a core, or `Device` or `NoMemory`: never `Damaged` or `NotAStore`
   abbrev pub OpensOrErrs : D → Type 0
-  OpensOrErrs disk = (result : Result (Core D) (Refused D)) → OpensAs files moment left_at failures refusals honest disk result → IfErr result (λ refused. (refused.error ≡ Device) ⊎ (refused.error ≡ NoMemory))
+  OpensOrErrs disk = (result : Result (Core D) (Refused D)) → OpensAs storage disk result → IfErr result (λ refused. (refused.error ≡ Device) ⊎ (refused.error ≡ NoMemory))
 
   abbrev pub Means : Graph → Place D → Type 0
   Means g (at_core c) = TellsMeaning g c × StandsWithin g c.vault.disk
@@ -64,17 +65,17 @@ module _ {D : Type 0} (files : D → Side → File) (moment : D → ℕ) (left_a
   -- What is known at a place: the commit order is legal; what is there is the state after it, on the disk perhaps with a prefix of what is in doubt; and it means what it should.
   pub record IsKnown (g : Graph) (h : History) (place : Place D) : Type 0 where
     pub legal : AreLegal g [] (events_of (h.made ++ h.doubt))
-    pub is_there : IsThere files g h place
+    pub is_there : IsThere storage.files g h place
     pub means : Means g place
 
   -- Along the moves, from each place that they led to, one commit order goes on, and after each of them this is known.
-  abbrev pub Along : Graph → (moves : List (Move D)) (from to : Place D) → LeadsAll files moment left_at failures refusals honest moves from to → History → History → Type 0
+  abbrev pub Along : Graph → (moves : List (Move D)) (from to : Place D) → LeadsAll storage moves from to → History → History → Type 0
   Along g [] from to leads before after = after ≡ before
   Along g (move ∷ moves) from to leads before after = (next : History) × Extends move from leads.0 before next × IsKnown g next leads.0 × Along g moves leads.0 to leads.2 next after
 
   -- What holds of a list of moves from a creation: this is known of the new store, and along the moves. What a move acknowledged comes after all that was made before the move,
   -- and is there at the end.
-  pub record Holds (core : Core D) (moves : List (Move D)) (place : Place D) (leads : LeadsAll files moment left_at failures refusals honest moves (at_core core) place) : Type 0 where
+  pub record Holds (core : Core D) (moves : List (Move D)) (place : Place D) (leads : LeadsAll storage moves (at_core core) place) : Type 0 where
     pub first : IsKnown (graph core) begun (at_core core)
     pub history : History
     pub along : Along (graph core) moves (at_core core) place leads begun history
@@ -85,5 +86,5 @@ module _ {D : Type 0} (files : D → Side → File) (moment : D → ℕ) (left_a
   -- returned `Ok`, this holds.
   abbrev pub ForEverySchedule : Type 0
   ForEverySchedule =
-      (text : List ℕ) (core : Core D) (moves : List (Move D)) (place : Place D) → IsCreated files honest text core → Keeps files honest core
-      → (leads : LeadsAll files moment left_at failures refusals honest moves (at_core core) place) → Holds core moves place leads
+      (text : List ℕ) (core : Core D) (moves : List (Move D)) (place : Place D) → IsCreated storage.files (IsTrue storage.is_honest) text core → Keeps storage.files (IsTrue storage.is_honest) core
+      → (leads : LeadsAll storage moves (at_core core) place) → Holds core moves place leads

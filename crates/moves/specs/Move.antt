@@ -1,5 +1,6 @@
 -- Every list of moves of a store: whole calls and runs, those that a crash cuts off, crashes between calls, and openings.
-use Rattle.std.specs.Prelude.{◌≡◌, ℕ, List, [], ◌∷◌, Result, Ok, Err}
+use Rattle.disk.specs.declared.storage.Disk.{Ghosts}
+use Rattle.std.specs.Prelude.{◌≡◌, ℕ, List, [], ◌∷◌, Result, Ok, Err, IsTrue}
 use Rattle.disk.specs.declared.side.Side.{Side}
 use Rattle.disk.specs.File.{File}
 use Rattle.disk.specs.Time.{Contents}
@@ -37,20 +38,20 @@ pub data Move (D : Type 0) : Type 0 where
   -- a crash cut the opening off; had it not come, the opening would have returned this
   opening_cut : Result (Core D) (Refused D) → Move D
 
-module _ {D : Type 0} (files : D → Side → File) (moment : D → ℕ) (left_at : D → ℕ → Contents → Type 0) (failures refusals : D → ℕ) (honest : Type 0) where
+module _ {D : Type 0} (storage : Ghosts D) where
   -- The move leads from one place to the next. Each call does what its contract says, and each core keeps what a core keeps. A crash leaves a disk of
-  -- which all that a further crash may leave is what a crash at some moment of the call, or between calls, may have left.
+  -- which all that a further crash may leave is what a crash at some storage.moment of the call, or between calls, may have left.
   abbrev pub Leads : Move D → (from to : Place D) → Type 0
-  Leads (whole call) (at_core old) (at_core new) = Does files moment left_at failures refusals honest call old new × Keeps files honest new
-  Leads (cut call new) (at_core old) (at_disk disk) = Does files moment left_at failures refusals honest call old new × Keeps files honest new × IsLeft files moment left_at old.vault.disk new.vault.disk disk
-  Leads (goes_on commits) (at_core old) (at_core new) = GoesOn files moment left_at failures refusals honest old new commits × Keeps files honest new
-  Leads (going_cut commits new) (at_core old) (at_disk disk) = GoesOn files moment left_at failures refusals honest old new commits × Keeps files honest new × IsLeft files moment left_at old.vault.disk new.vault.disk disk
-  Leads crashes (at_core core) (at_disk disk) = IsLeft files moment left_at core.vault.disk core.vault.disk disk
+  Leads (whole call) (at_core old) (at_core new) = Does storage call old new × Keeps storage.files (IsTrue storage.is_honest) new
+  Leads (cut call new) (at_core old) (at_disk disk) = Does storage call old new × Keeps storage.files (IsTrue storage.is_honest) new × IsLeft storage.files storage.moment storage.left_at old.vault.disk new.vault.disk disk
+  Leads (goes_on commits) (at_core old) (at_core new) = GoesOn storage old new commits × Keeps storage.files (IsTrue storage.is_honest) new
+  Leads (going_cut commits new) (at_core old) (at_disk disk) = GoesOn storage old new commits × Keeps storage.files (IsTrue storage.is_honest) new × IsLeft storage.files storage.moment storage.left_at old.vault.disk new.vault.disk disk
+  Leads crashes (at_core core) (at_disk disk) = IsLeft storage.files storage.moment storage.left_at core.vault.disk core.vault.disk disk
   Leads gives_back (at_core core) (at_disk disk) = disk ≡ core.vault.disk
-  Leads crashes_again (at_disk before) (at_disk disk) = IsLeft files moment left_at before before disk
-  Leads (opens (Ok core)) (at_disk disk) (at_core opened) = OpensAs files moment left_at failures refusals honest disk (Ok core) × (opened ≡ core) × Keeps files honest core
-  Leads (opens (Err refused)) (at_disk disk) (at_disk back) = OpensAs files moment left_at failures refusals honest disk (Err refused) × (back ≡ refused.disk)
-  Leads (opening_cut result) (at_disk before) (at_disk disk) = OpensAs files moment left_at failures refusals honest before result × IsLeft files moment left_at before (disk_of result) disk
+  Leads crashes_again (at_disk before) (at_disk disk) = IsLeft storage.files storage.moment storage.left_at before before disk
+  Leads (opens (Ok core)) (at_disk disk) (at_core opened) = OpensAs storage disk (Ok core) × (opened ≡ core) × Keeps storage.files (IsTrue storage.is_honest) core
+  Leads (opens (Err refused)) (at_disk disk) (at_disk back) = OpensAs storage disk (Err refused) × (back ≡ refused.disk)
+  Leads (opening_cut result) (at_disk before) (at_disk disk) = OpensAs storage before result × IsLeft storage.files storage.moment storage.left_at before (disk_of result) disk
   Leads move from to = ⊥
 
   -- one move after another

@@ -1,5 +1,6 @@
 -- A run as a move.
-use Rattle.std.specs.Prelude.{◌≡◌, ℕ, Bool, false, Result}
+use Rattle.disk.specs.declared.storage.Disk.{Ghosts}
+use Rattle.std.specs.Prelude.{◌≡◌, ℕ, Bool, false, Result, IsTrue}
 use Rattle.disk.specs.declared.side.Side.{Side}
 use Rattle.disk.specs.File.{File}
 use Rattle.disk.specs.Time.{Contents}
@@ -11,7 +12,7 @@ use Rattle.commit.specs.Runs.{RunsWithin}
 use Rattle.commit.specs.Went.{GoesOn}
 
 -- What a run promises of a core that was not halted makes it a move, by the commits that it made; whoever ran its steps, on however many threads.
-abbrev pub RunsAreMoves : {D : Type 0} → (D → Side → File) → (D → ℕ) → (D → ℕ → Contents → Type 0) → (failures refusals : D → ℕ) → Type 0 → Type 0
-RunsAreMoves {D} files moment left_at failures refusals honest =
-    (old new : Core D) (may_be_asked may_spawn : Bool) (limit : ℕ) (result : Result Verdict RunError) → is_halted old ≡ false → (run : RunsWithin files moment left_at failures refusals honest may_be_asked may_spawn old new limit result)
-    → Keeps files honest new → GoesOn files moment left_at failures refusals honest old new run.commits
+abbrev pub RunsAreMoves : {D : Type 0} → Ghosts D → Type 0
+RunsAreMoves {D} storage =
+    (old new : Core D) (may_be_asked may_spawn : Bool) (limit : ℕ) (result : Result Verdict RunError) → is_halted old ≡ false → (run : RunsWithin storage may_be_asked may_spawn old new limit result)
+    → Keeps storage.files (IsTrue storage.is_honest) new → GoesOn storage old new run.commits

@@ -13,7 +13,7 @@ use vault::{one_store, stores_go_on};
 /// whatever order: these are within the meaning of the graph on what the environment put. If the store is quiet, they are
 /// exactly that meaning. No opening says that the files are damaged, or no store.
 pub fn for_every_schedule<D: Disk>()
-    ensures { IsTrue D.is_honest → ForEverySchedule D.files D.moment D.left_at D.failures D.refusals (IsTrue D.is_honest) }
+    ensures { IsTrue D.is_honest → ForEverySchedule D.Disk }
 {
     facts_are_told_apart();
     stores_go_on::<D>();

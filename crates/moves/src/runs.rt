@@ -6,5 +6,5 @@ use disk::Disk;
 /// A law, with nothing to run: a run of steps, on one thread or on many, is a move. So the theorem holds of what `run_with` and
 /// the drivers of the layers above return.
 pub fn runs_are_moves<D: Disk>()
-    ensures { RunsAreMoves D.files D.moment D.left_at D.failures D.refusals (IsTrue D.is_honest) }
+    ensures { RunsAreMoves D.Disk }
 {}

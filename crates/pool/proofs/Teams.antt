@@ -1,10 +1,9 @@
 -- What workers make of a core, and which verdict is right after them.
-use Rattle.std.proofs.Common.{◌≡◌, ◌↔◌, ◌∙◌, ◌+◌, ◌++◌, ℕ, zero, suc, Bool, true, false, true≢false, List, [], ◌∷◌, length, Option, Some, None, IfErr, IfSome, IsErrOf, IsSome, if◌then◌else◌, option_to_list, Result, Ok, Err, refl, sym, ap, subst, inl, inr, ⊎_elim, arith, append_assoc, length-append}
+use Rattle.disk.specs.declared.storage.Disk.{Ghosts}
+use Rattle.std.proofs.Common.{◌≡◌, ◌↔◌, ◌∙◌, ◌+◌, ◌++◌, ℕ, zero, suc, Bool, true, false, true≢false, List, [], ◌∷◌, length, Option, Some, None, IfErr, IfSome, IsErrOf, IsSome, if◌then◌else◌, option_to_list, Result, Ok, Err, refl, sym, ap, subst, inl, inr, ⊎_elim, arith, append_assoc, length-append, IsTrue}
 use mathlib.Core.List.{IsPrefix}
 use Rattle.std.specs.List.{AllByRecursion}
 use Rattle.std.proofs.lemmas.Bool.{false≢true}
-use Rattle.disk.specs.declared.side.Side.{Side}
-use Rattle.disk.specs.File.{File}
 use Rattle.disk.specs.Time.{Contents, LeavesSince}
 use Rattle.terms.specs.declared.name.Inst.{Inst}
 use Rattle.terms.specs.Commits.{Commit, events_of, facts_behind}
@@ -86,9 +85,9 @@ no_refusal causes result thread memory full =
 
 -- ---- a run since the opening of a hub
 
-module _ {D : Type 0} (files : D → Side → File) (moment : D → ℕ) (left_at : D → ℕ → Contents → Type 0) (failures refusals : D → ℕ) (honest : Type 0) where
+module _ {D : Type 0} (storage : Ghosts D) where
   -- what a crash might have left, whichever of two equivalent names it has
-  unnamed : (begun : ℕ) (left was_left : ℕ → Contents → Type 0) (d : D) (P : Contents → Type 0) → ((t : ℕ) (contents : Contents) → left t contents ↔ was_left t contents) → LeavesSince moment left_at begun left d P → LeavesSince moment left_at begun was_left d P
+  unnamed : (begun : ℕ) (left was_left : ℕ → Contents → Type 0) (d : D) (P : Contents → Type 0) → ((t : ℕ) (contents : Contents) → left t contents ↔ was_left t contents) → LeavesSince storage.moment storage.left_at begun left d P → LeavesSince storage.moment storage.left_at begun was_left d P
   unnamed begun left was_left d P alike leaves = record {
     later = leaves.later;
     each = leaves.each;
@@ -96,10 +95,10 @@ module _ {D : Type 0} (files : D → Side → File) (moment : D → ℕ) (left_a
   }
 
   -- a run since the opening is one from the core that was opened
-  pub runs_of_team : (opening : Opening) (left : ℕ → Contents → Type 0) (old new : Core D) (commits : List Commit) → opening ≡ opening_of files moment failures refusals old → ((t : ℕ) (contents : Contents) → left t contents ↔ left_at old.vault.disk t contents)
-      → RunsSince moment left_at failures refusals honest (begun_with opening) left new commits → Runs files moment left_at failures refusals honest old new commits
+  pub runs_of_team : (opening : Opening) (left : ℕ → Contents → Type 0) (old new : Core D) (commits : List Commit) → opening ≡ opening_of storage.files storage.moment storage.failures storage.refusals old → ((t : ℕ) (contents : Contents) → left t contents ↔ storage.left_at old.vault.disk t contents)
+      → RunsSince storage.moment storage.left_at storage.failures storage.refusals (IsTrue storage.is_honest) (begun_with opening) left new commits → Runs storage old new commits
   runs_of_team opening left old new commits opened alike runs =
-      let it = subst (λ (o : Opening). RunsSince moment left_at failures refusals honest (begun_with o) left new commits) opened runs in
+      let it = subst (λ (o : Opening). RunsSince storage.moment storage.left_at storage.failures storage.refusals (IsTrue storage.is_honest) (begun_with o) left new commits) opened runs in
       record {
         are_ends = it.are_ends;
         legal = it.legal;
@@ -110,19 +109,19 @@ module _ {D : Type 0} (files : D → Side → File) (moment : D → ℕ) (left_a
         latest = it.latest;
         generation = it.generation;
         end = it.end;
-        crashes = λ on. unnamed (moment old.vault.disk) left (left_at old.vault.disk) new.vault.disk _ alike (it.crashes on);
+        crashes = λ on. unnamed (storage.moment old.vault.disk) left (storage.left_at old.vault.disk) new.vault.disk _ alike (it.crashes on);
         acknowledged = it.acknowledged;
-        gates = λ on has. unnamed (moment old.vault.disk) left (left_at old.vault.disk) new.vault.disk _ alike (it.gates on has);
+        gates = λ on has. unnamed (storage.moment old.vault.disk) left (storage.left_at old.vault.disk) new.vault.disk _ alike (it.gates on has);
         halts = it.halts;
         later = it.later;
         some_in_doubt = it.some_in_doubt;
       }
 
   -- nothing was committed
-  pub nothing_done : (honest → RestLeaves files moment left_at) → (honest → GatesRest files moment left_at) → (core : Core D) (full : Bool) → is_halted core ≡ false → core.in_doubt ≡ [] → (honest → IsKept files core) → full ≡ false
-      → WorksOn files moment left_at failures refusals honest core core full
+  pub nothing_done : (IsTrue storage.is_honest → RestLeaves storage.files storage.moment storage.left_at) → (IsTrue storage.is_honest → GatesRest storage.files storage.moment storage.left_at) → (core : Core D) (full : Bool) → is_halted core ≡ false → core.in_doubt ≡ [] → (IsTrue storage.is_honest → IsKept storage.files core) → full ≡ false
+      → WorksOn storage core core full
   nothing_done leaves gates_rest core full working settled kept none =
-      let it = as_it_was files moment left_at failures refusals honest leaves gates_rest core working settled kept in
+      let it = as_it_was storage leaves gates_rest core working settled kept in
       record { commits = it.commits; runs = it.runs; met = λ is. absurd (false≢true (sym none ∙ is)) }
 
   -- ---- what did not fit
@@ -144,7 +143,7 @@ module _ {D : Type 0} (files : D → Side → File) (moment : D → ℕ) (left_a
   counted first second = ap length (events_joined first second) ∙ length-append (events_of first) (events_of second)
 
   -- what the last part of a run met, the whole run met
-  full_behind : AmongBoth → (old mid : Core D) (first second : List Commit) → is_halted mid ≡ false → Runs files moment left_at failures refusals honest old mid first
+  full_behind : AmongBoth → (old mid : Core D) (first second : List Commit) → is_halted mid ≡ false → Runs storage old mid first
       → MetFull (graph mid) (facts mid) mid.vault.journal.end second → MetFull (graph old) (facts old) old.vault.journal.end (first ++ second)
   full_behind both old mid first second goes runs met =
       let sets : facts mid ≡ facts_behind (facts old) first = λ i fact. runs.facts fact i in
@@ -173,7 +172,7 @@ module _ {D : Type 0} (files : D → Side → File) (moment : D → ℕ) (left_a
   one_after opening (known ∷ before) passes one = inr (one_after opening before passes one)
 
   -- .. and so met in the core that was opened
-  pub met_by_team : (opening : Opening) (old : Core D) (history : List Made) (envs workers : List Known) → opening ≡ opening_of files moment failures refusals old → AllByRecursion (IsInHistory history) (envs ++ workers) → OneSawFull opening workers
+  pub met_by_team : (opening : Opening) (old : Core D) (history : List Made) (envs workers : List Known) → opening ≡ opening_of storage.files storage.moment storage.failures storage.refusals old → AllByRecursion (IsInHistory history) (envs ++ workers) → OneSawFull opening workers
       → MetFull (graph old) (facts old) old.vault.journal.end (commits history)
   met_by_team opening old history envs workers opened all one =
       subst (λ (o : Opening). MetFull o.graph o.facts o.end (commits history)) opened (saw_in_history opening history (envs ++ workers) all (one_after opening envs workers one))
@@ -194,34 +193,34 @@ module _ {D : Type 0} (files : D → Side → File) (moment : D → ℕ) (left_a
   told_more one other may c left count limit before (Err Full) sum so told = (told.0, so told.1, inr refl)
 
   -- a run of the workers, and then its conclusion, are a run with the limit
-  pub driven : AmongBoth → (honest → GatesStay files moment left_at) → (may_be_asked : Bool) (causes : Causes) (old first mid new : Core D) (limit : ℕ) (result : Result Verdict RunError) → first ≡ with_allowance old limit → (is_halted mid ≡ false → mid.in_doubt ≡ [])
-      → WorksOn files moment left_at failures refusals honest first mid causes.full → Concludes files moment left_at failures refusals honest may_be_asked causes mid new result
-      → RunsWithin files moment left_at failures refusals honest may_be_asked true old new limit result
+  pub driven : AmongBoth → (IsTrue storage.is_honest → GatesStay storage.files storage.moment storage.left_at) → (may_be_asked : Bool) (causes : Causes) (old first mid new : Core D) (limit : ℕ) (result : Result Verdict RunError) → first ≡ with_allowance old limit → (is_halted mid ≡ false → mid.in_doubt ≡ [])
+      → WorksOn storage first mid causes.full → Concludes storage may_be_asked causes mid new result
+      → RunsWithin storage may_be_asked true old new limit result
   driven both gates_stay may causes old first mid new limit result allowed settled work concludes = ⊎_elim at_once goes_on concludes.verdict
     where
-      runs : Runs files moment left_at failures refusals honest (with_allowance old limit) mid work.commits
-      runs = subst (λ (core : Core D). Runs files moment left_at failures refusals honest core mid work.commits) allowed work.runs
+      runs : Runs storage (with_allowance old limit) mid work.commits
+      runs = subst (λ (core : Core D). Runs storage core mid work.commits) allowed work.runs
 
       met : causes.full ≡ true → MetFull (graph old) (facts old) old.vault.journal.end work.commits
       met is = subst (λ (core : Core D). MetFull (graph core) (facts core) core.vault.journal.end work.commits) allowed (work.met is)
 
-      at_once : (new ≡ mid) × ((limit count : ℕ) → mid.allowance + count ≡ limit → TellsVerdict (causes.full ≡ true) may true mid limit count result) → RunsWithin files moment left_at failures refusals honest may true old new limit result
+      at_once : (new ≡ mid) × ((limit count : ℕ) → mid.allowance + count ≡ limit → TellsVerdict (causes.full ≡ true) may true mid limit count result) → RunsWithin storage may true old new limit result
       at_once told = record {
         commits = work.commits;
-        runs = subst (λ (core : Core D). Runs files moment left_at failures refusals honest (with_allowance old limit) core work.commits) (sym told.0) runs;
+        runs = subst (λ (core : Core D). Runs storage (with_allowance old limit) core work.commits) (sym told.0) runs;
         told =
             subst (λ (core : Core D). TellsVerdict (MetFull (graph old) (facts old) old.vault.journal.end work.commits × (true ≡ false → IsFull core)) may true core limit (length (events_of work.commits)) result) (sym told.0)
             (told_for (causes.full ≡ true) (MetFull (graph old) (facts old) old.vault.journal.end work.commits × (true ≡ false → IsFull mid)) may true mid limit (length (events_of work.commits)) result (λ _ is. (met is, λ one. absurd (true≢false one)))
             (told.1 limit (length (events_of work.commits)) runs.spent));
       }
 
-      goes_on : (is_halted mid ≡ false) × RunsWithin files moment left_at failures refusals honest false false mid new mid.allowance result → RunsWithin files moment left_at failures refusals honest may true old new limit result
+      goes_on : (is_halted mid ≡ false) × RunsWithin storage false false mid new mid.allowance result → RunsWithin storage may true old new limit result
       goes_on more =
           let goes = more.0 in
           let rest = more.1 in
           record {
             commits = work.commits ++ rest.commits;
-            runs = since_joined files moment left_at failures refusals honest both gates_stay (begun_by files moment failures refusals (with_allowance old limit)) (left_at old.vault.disk) mid new work.commits rest.commits goes (settled goes) runs rest.runs;
+            runs = since_joined storage both gates_stay (begun_by storage.files storage.moment storage.failures storage.refusals (with_allowance old limit)) (storage.left_at old.vault.disk) mid new work.commits rest.commits goes (settled goes) runs rest.runs;
             told =
                 subst (λ (n : ℕ). TellsVerdict (MetFull (graph old) (facts old) old.vault.journal.end (work.commits ++ rest.commits) × (true ≡ false → IsFull new)) may true new limit n result) (sym (counted work.commits rest.commits))
                 (told_more (MetFull (graph mid) (facts mid) mid.vault.journal.end rest.commits × (false ≡ false → IsFull new)) (MetFull (graph old) (facts old) old.vault.journal.end (work.commits ++ rest.commits) × (true ≡ false → IsFull new)) may new mid.allowance

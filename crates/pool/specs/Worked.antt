@@ -1,10 +1,10 @@
 -- What workers make of a core, and what a worker knows of a refusal that it met.
-use Rattle.std.specs.Prelude.{◌≡◌, ◌⊎◌, ℕ, Bool, true, false, not, is_some, List, [], ◌∷◌, Option, None, Some, IfSome, ◌<◌, length, Result, Ok, Err}
+use Rattle.disk.specs.declared.storage.Disk.{Ghosts}
+use Rattle.std.specs.Prelude.{◌≡◌, ◌⊎◌, Bool, true, false, not, is_some, List, [], ◌∷◌, Option, None, Some, IfSome, ◌<◌, length, Result, Ok, Err}
+use Rattle.std.specs.Global.{Box}
 use Rattle.std.specs.List.{AllByRecursion}
+use mathlib.Core.List.{IsPrefix}
 use Rattle.machine.specs.declared.group.Ended.{Ended}
-use Rattle.disk.specs.declared.side.Side.{Side}
-use Rattle.disk.specs.File.{File}
-use Rattle.disk.specs.Time.{Contents}
 use Rattle.terms.specs.Commits.{Commit}
 use Rattle.terms.specs.Facts.{Fact}
 use Rattle.terms.specs.declared.name.Inst.{Inst}
@@ -20,8 +20,12 @@ use Rattle.hub.specs.declared.error.BatchError.TheVariants as batch_error
 use Rattle.hub.specs.declared.error.TaskError.{TaskError}
 use Rattle.hub.specs.declared.error.TaskError.TheVariants.{Foreign, Refused}
 use Rattle.hub.specs.Opening.{facts_behind}
+use Rattle.hub.specs.Running.{WaitsIn}
 use Rattle.passes.specs.Known.{Known}
 use Rattle.passes.specs.Opening.{Opening}
+use Rattle.steplang.specs.Running.{Asking, resumed}
+use Rattle.pool.specs.declared.hand.Hand.{Hand}
+use Rattle.pool.specs.declared.waiting.Waiting.{Waiting}
 use Rattle.pool.specs.declared.worker.Met.{Met}
 use Rattle.pool.specs.declared.worker.TheConstants.{MOST_KEPT}
 use Rattle.pool.specs.declared.worker.Turned.{Turned}
@@ -73,6 +77,31 @@ AreKept opening known kept = IfSome kept (AreKeptIn opening known)
 abbrev pub AreClaimed : Opening → List Inst → Type 0
 AreClaimed opening claimed = AllByRecursion (InstanceIsOf opening.graph) claimed
 
+-- A run that asks for an item, of an instance of the graph: what it read are items of a state that is no later than the one after these commits.
+pub record WaitsSince (opening : Opening) (seen : List Commit) (asking : Asking) : Type 0 where
+  pub some : List Commit
+  pub starts : IsPrefix some seen
+  pub waits : WaitsIn opening.graph (facts_behind opening some) asking.instance (resumed asking)
+
+-- each run that is kept at one of these places waits so
+abbrev pub AreWaitingAt : Opening → List Commit → List (Option (Box Asking)) → Type 0
+AreWaitingAt opening seen places = AllByRecursion (λ place. IfSome place (λ run. WaitsSince opening seen run.value)) places
+
+abbrev pub AreWaiting : Opening → List Commit → Waiting → Type 0
+AreWaiting opening seen waiting = AreWaitingAt opening seen waiting.places.items
+
+-- what a worker has in hand: the instances that it has claimed, and the runs that it keeps while their instances wait
+pub record IsHandOf (opening : Opening) (seen : List Commit) (tasks : List Inst) (runs : Waiting) : Type 0 where
+  pub claimed : AreClaimed opening tasks
+  pub waiting : AreWaiting opening seen runs
+
+abbrev pub IsHand : Opening → List Commit → Hand → Type 0
+IsHand opening seen hand = IsHandOf opening seen hand.claimed hand.waiting
+
+-- a hand has the same instances and runs as before
+abbrev pub HasTheSame : Hand → Hand → Type 0
+HasTheSame old new = (new.claimed ≡ old.claimed) × (new.waiting ≡ old.waiting)
+
 -- after a turn the worker goes on with what it keeps, or it ends, with `Full` only if its pass saw such a prefix
 abbrev pub IsTurned : Opening → Known → Turned → Type 0
 IsTurned opening known (turned.GoesOn kept) = AreKept opening known kept
@@ -91,7 +120,7 @@ OneSawFull opening [] = ⊥
 OneSawFull opening (known ∷ passes) = SawFull opening known ⊎ OneSawFull opening passes
 
 -- The commits of workers are one run; and where one of them met `Full`, ends were so refused in it.
-pub record WorksOn {D : Type 0} (files : D → Side → File) (moment : D → ℕ) (left_at : D → ℕ → Contents → Type 0) (failures refusals : D → ℕ) (honest : Type 0) (old new : Core D) (full : Bool) : Type 0 where
+pub record WorksOn {D : Type 0} (storage : Ghosts D) (old new : Core D) (full : Bool) : Type 0 where
   pub commits : List Commit
-  pub runs : Runs files moment left_at failures refusals honest old new commits
+  pub runs : Runs storage old new commits
   pub met : full ≡ true → MetFull (graph old) (facts old) old.vault.journal.end commits

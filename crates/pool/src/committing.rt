@@ -4,7 +4,7 @@ ghost use mathlib.Core.List.{IsPrefix};
 ghost use Rattle.commit.specs.Batch.{HaveOutcomes};
 ghost use Rattle.hub.specs.Opening.{facts_behind};
 ghost use Rattle.pool.specs.declared.worker.Met.TheVariants.{Asked as MetAsked};
-ghost use Rattle.pool.specs.Worked.{AreClaimed, AreKept, HasAll, Justifies};
+ghost use Rattle.pool.specs.Worked.{AreKept, HasAll, IsHand, Justifies};
 
 use crate::hand::Hand;
 use crate::settling::settled_all;
@@ -25,6 +25,7 @@ pub(crate) fn commit_kept<'a, J: Naming, D: Disk, R: Wait>(
     kept: Option<Batch<'a>>,
 ) -> Option<Met>
     requires { AreKept J.opening pass.old kept }
+    ensures ahead { IsPrefix pass.old.seen pass.new.seen }
     ensures asked { result ≡ Some MetAsked → ⊥ }
     ensures full { Justifies J.opening result pass.new }
 {
@@ -42,6 +43,7 @@ pub(crate) fn commit<'a, J: Naming, D: Disk, R: Wait>(
     batch: Batch<'a>,
 ) -> Option<Met>
     requires { HaveOutcomes J.opening.graph (facts_behind J.opening pass.old.seen) batch.tasks batch.outcomes }
+    ensures ahead { IsPrefix pass.old.seen pass.new.seen }
     ensures asked { result ≡ Some MetAsked → ⊥ }
     ensures full { Justifies J.opening result pass.new }
 {
@@ -73,20 +75,17 @@ pub(crate) fn exchange<'a, J: Naming, D: Disk, R: Wait>(
     rt: &R,
     hub: &'a Hub<J, D>,
     pass: &mut WorkPass<J>,
-    hand: &mut Hand,
+    hand: &mut Hand<'a>,
     batch: Batch<'a>,
 ) -> Option<Met>
     requires batch { HaveOutcomes J.opening.graph (facts_behind J.opening pass.old.seen) batch.tasks batch.outcomes }
-    requires claimed { AreClaimed J.opening hand.old.claimed }
-    ensures claimed { AreClaimed J.opening hand.new.claimed }
+    requires hand { IsHand J.opening pass.old.seen hand.old }
+    ensures hand { IsHand J.opening pass.new.seen hand.new }
     ensures asked { result ≡ Some MetAsked → ⊥ }
     ensures full { Justifies J.opening result pass.new }
 {
-    hand.before_commit(pass.number(), hub.batches());
     let mut visit = hub.visit(rt);
-    let came = commit_with(rt, &mut visit, pass, batch);
-    hand.after_commit(hub.batches());
-    match came {
+    match commit_with(rt, &mut visit, pass, batch) {
         Ok(_) => {
             claim_next(&mut visit, pass, hand);
             None
@@ -99,14 +98,11 @@ pub(crate) fn exchange<'a, J: Naming, D: Disk, R: Wait>(
 fn claim_next<J: Naming, D: Disk>(
     visit: &mut Visit<'_, J, D>,
     pass: &mut WorkPass<J>,
-    hand: &mut Hand,
+    hand: &mut Hand<'_>,
 )
-    requires { AreClaimed J.opening hand.old.claimed }
-    ensures { AreClaimed J.opening hand.new.claimed }
+    requires { IsHand J.opening pass.old.seen hand.old }
+    ensures { IsHand J.opening pass.new.seen hand.new }
 {
-    if hand.rests {
-        return;
-    }
     let most = MOST_KEPT.saturating_sub(hand.claimed.len());
     let _ = visit.claim_some(pass, &mut hand.claimed, most);
 }

@@ -38,7 +38,7 @@ impl<'a, R: Threads + Wait + Sync, P: Probe> Crew<'a, R, P> {
         requires { NoneRuns core }
         ensures idle { NoneRuns result.0 }
         ensures halted { is_halted core ≡ true → (result.0 ≡ core) × (result.1 ≡ Ok Halted) }
-        ensures runs { is_halted core ≡ false → RunsWithin D.files D.moment D.left_at D.failures D.refusals (IsTrue D.is_honest) P.may_stop true core result.0 limit result.1 }
+        ensures runs { is_halted core ≡ false → RunsWithin D.Disk P.may_stop true core result.0 limit result.1 }
     {
         drive(self.rt, alloc, core, self.workers, limit, &self.probe)
     }

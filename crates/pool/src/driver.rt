@@ -34,7 +34,7 @@ impl<'a, R: Threads + Wait + Sync, P: Probe> Driver<'a, R, P> {
         requires { NoneRuns core }
         ensures idle { NoneRuns result.0 }
         ensures halted { is_halted core ≡ true → (result.0 ≡ core) × (result.1 ≡ Ok Halted) }
-        ensures runs { is_halted core ≡ false → RunsWithin D.files D.moment D.left_at D.failures D.refusals (IsTrue D.is_honest) (may_be_asked P.may_stop self.now) (may_spawn self.now) core result.0 limit result.1 }
+        ensures runs { is_halted core ≡ false → RunsWithin D.Disk (may_be_asked P.may_stop self.now) (may_spawn self.now) core result.0 limit result.1 }
     {
         match self {
             Driver::Alone => run_with(alloc, core, &mut First, limit),

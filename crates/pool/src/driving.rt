@@ -36,7 +36,7 @@ pub fn drive<D: Disk + Send, P: Probe + Sync, R: Threads + Wait + Sync>(
     requires workers { (1 ≤ workers) × (workers ≤ 64) }
     ensures idle { NoneRuns result.0 }
     ensures halted { is_halted core ≡ true → (result.0 ≡ core) × (result.1 ≡ Ok Halted) }
-    ensures runs { is_halted core ≡ false → RunsWithin D.files D.moment D.left_at D.failures D.refusals (IsTrue D.is_honest) P.may_stop true core result.0 limit result.1 }
+    ensures runs { is_halted core ≡ false → RunsWithin D.Disk P.may_stop true core result.0 limit result.1 }
 {
     facts_are_told_apart();
     stores_go_on::<D>();
@@ -63,7 +63,7 @@ fn worked<D: Disk + Send, P: Probe + Sync, R: Threads + Wait + Sync>(
     requires idle { NoneRuns core }
     requires working { is_halted core ≡ false }
     requires workers { workers ≤ 64 }
-    ensures works { WorksOn D.files D.moment D.left_at D.failures D.refusals (IsTrue D.is_honest) core result.0 result.1.full }
+    ensures works { WorksOn D.Disk core result.0 result.1.full }
     ensures idle { NoneRuns result.0 }
     ensures asked { result.1.asked ≡ true → P.may_stop ≡ true }
 {
@@ -84,7 +84,7 @@ fn conclude<D: Disk, P: Probe>(
     requires idle { NoneRuns core }
     requires asked { causes.asked ≡ true → P.may_stop ≡ true }
     ensures idle { NoneRuns result.0 }
-    ensures concludes { Concludes D.files D.moment D.left_at D.failures D.refusals (IsTrue D.is_honest) P.may_stop causes core result.0 result.1 }
+    ensures concludes { Concludes D.Disk P.may_stop causes core result.0 result.1 }
 {
     match core.status() {
         Ok(Status::Stopped(instance, kind)) => (core, Ok(Verdict::Stopped(instance, kind))),

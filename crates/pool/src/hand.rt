@@ -1,12 +1,14 @@
-//! What a worker has claimed, and what it remembers of the bodies that it ran.
+//! What a worker has in hand.
 ghost use Rattle.std.specs.Prelude.{◌≡◌, ◌⊎◌, [], None, IfOk, IfErr, IfSome};
 ghost use mathlib.Core.List.{IsPrefix};
 ghost use Rattle.graph.specs.Fits.{InstanceIsOf};
 ghost use Rattle.hub.specs.Claims.{RefusesClaims};
 ghost use Rattle.hub.specs.Running.{kept_of};
-ghost use Rattle.pool.specs.Worked.{AreClaimed};
+ghost use Rattle.pool.specs.Worked.{HasTheSame, IsHand};
 
+use crate::pace::Pace;
 use crate::settling::settled;
+use crate::waiting::Waiting;
 use crate::worker::{FEW, MOST_KEPT};
 use commit::{Batch, CoreError};
 use disk::Disk;
@@ -17,173 +19,82 @@ use std::alloc::{AllocError, Global};
 use std::sync::Wait;
 use terms::StepCollection;
 
-// A body takes long if it makes this number of statements and turns of loops: some 60 microseconds, about as long as one of a commit's two syncs on a disk.
-const LONG: u32 = 10_000;
-
-// What a body takes beside its statements, counted in statements.
-const VISIT: u32 = 100;
-
-// A body is light if it makes fewer statements: then its commit takes longer than the body, and one worker alone takes about as long for such bodies as several.
-const LIGHT: u32 = 64;
-
-// How many steps are told apart by whether their bodies are light.
-const STEPS: u16 = 64;
-
-// A body looks for items among the results that are kept if these have at most this number of puts, since it goes through all of them.
-const FEW_PUTS: usize = 256;
-
-/// What a worker has claimed, and what it remembers of the bodies that it ran.
-pub(crate) struct Hand {
+/// What a worker has claimed, the runs that it keeps while their instances wait, and its pace.
+pub(crate) struct Hand<'a> {
     /// The instances that it has claimed and not begun to run, in order.
     pub(crate) claimed: Tasks,
-    // Whether the last body took long, to its end or up to an item that was not there.
-    slow: bool,
-    // The statements of the bodies that ran since the first of the results that are kept, with `VISIT` more for each body.
-    spent: u32,
-    // The puts of the results that are kept.
-    puts: usize,
+    /// The runs that it keeps.
+    pub(crate) waiting: Waiting<'a>,
+    /// What it remembers of the bodies that it ran, and of what others did.
+    pub(crate) pace: Pace,
     // Of the results that are kept, how many it has looked at for instances that wait for their items.
     looked: usize,
-    // Whether so far `FEW` instances or more were ready at once.
-    many: bool,
-    // Whether the bodies that ran since then are light.
-    light: bool,
-    // The steps of which the last body that ended was not light: a bit each, by the step's number modulo `STEPS`.
-    heavy: u64,
-    // How many batches had been committed when it last committed one.
-    batches: usize,
-    /// Whether it leaves the work to others for a while, and how often in a row it has done so.
-    pub(crate) rests: bool,
-    pub(crate) rested: u32,
-    // Whether it has left the work to others, or given back what it had claimed, since the last body that ended.
-    left: bool,
-    /// How often in a row it has found nothing to do.
-    pub(crate) vain: u32,
-    /// Whether it looks at what it gave back again once others have committed.
-    pub(crate) waits: bool,
-    /// Whether it has waited so in vain since the last body that ended.
-    pub(crate) in_vain: bool,
+    // Whether it claims one instance before it goes on, since one has begun to wait.
+    stuck: bool,
+    // Whether it has done so since the last body that ended.
+    tried: bool,
     // Whether it looks for instances that wait for what it keeps before it goes on with those that it has claimed.
     chases: bool,
-    // How many of the last of those that it has claimed it found so.
+    // How many of the last of those that it has claimed come before the others.
     woken: usize,
 }
 
-impl Hand {
-    /// A hand that has claimed nothing. Until a body was run, it is not known whether bodies take long.
-    pub(crate) fn empty(alloc: Global) -> Result<Hand, AllocError>
-        ensures { IfOk result (λ hand. hand.claimed ≡ []) }
+impl<'a> Hand<'a> {
+    /// A hand that has claimed nothing and keeps nothing.
+    pub(crate) fn empty(alloc: Global) -> Result<Hand<'a>, AllocError>
+        ensures { IfOk result (λ hand. (hand.claimed ≡ []) × (hand.waiting.places.items ≡ [])) }
     {
         let claimed = Tasks::with_room(alloc, MOST_KEPT)?;
         Ok(Hand {
             claimed,
-            slow: true,
-            spent: 0,
-            puts: 0,
+            waiting: Waiting::none(alloc),
+            pace: Pace::new(),
             looked: 0,
-            many: false,
-            light: false,
-            heavy: 0,
-            batches: 0,
-            rests: false,
-            rested: 0,
-            left: false,
-            vain: 0,
-            waits: false,
-            in_vain: false,
+            stuck: false,
+            tried: false,
             chases: false,
             woken: 0,
         })
     }
 
-    // Whether bodies of this step are light, as far as it has seen.
-    fn is_light(&self, step: StepCollection) -> bool {
-        self.heavy & bit_of(step) == 0
+    /// Notes how many statements and puts a body has made, and whether results are kept beside it.
+    pub(crate) fn note(&mut self, statements: u32, puts: usize, keeps: bool)
+        ensures { HasTheSame self.old self.new }
+    {
+        if !keeps {
+            self.looked = 0;
+        }
+        self.pace.note(statements, puts, keeps);
+    }
+
+    /// Notes that an instance waits. What it waits for may stand in front of the queue, since another worker gave it back after this one had claimed those behind it: so one instance is claimed before it goes on
+    /// with the others, most of which would wait, too; and then what waits for what that one puts is run first.
+    pub(crate) fn note_wait(&mut self)
+        ensures { HasTheSame self.old self.new }
+    {
+        self.stuck = !self.tried;
+        self.tried = true;
+        self.chases = true;
     }
 
     /// Notes that a body of this step has ended, after this number of statements.
     pub(crate) fn note_end(&mut self, step: StepCollection, statements: u32)
-        ensures { self.new.claimed ≡ self.old.claimed }
+        ensures { HasTheSame self.old self.new }
     {
-        if statements < LIGHT {
-            self.heavy &= !bit_of(step);
-        } else {
-            self.heavy |= bit_of(step);
-        }
-        self.left = false;
-        self.in_vain = false;
+        self.tried = false;
+        self.pace.note_end(step, statements);
     }
 
-    /// Whether the worker with this number, whose body of this step waits, leaves the work to others: if the step's bodies are light and others run something. Then it rests. `kept` is the number of results that it
-    /// keeps, and `running` that of all instances that run. A worker that goes on would let one instance after another wait, and each would be woken and run anew by somebody else.
-    pub(crate) fn leaves(
+    /// What is kept, if a body may look for items there, `ready` being the number of instances that are ready now.
+    pub(crate) fn ahead<'k, 'b>(
         &mut self,
-        step: StepCollection,
-        number: usize,
-        kept: usize,
-        running: usize,
-    ) -> bool
-        ensures { self.new.claimed ≡ self.old.claimed }
-    {
-        let own = self.claimed.len().saturating_add(kept).saturating_add(1);
-        if number == 0 || !self.is_light(step) || running <= own {
-            return false;
-        }
-        self.rests = true;
-        self.left = true;
-        true
-    }
-
-    /// Whether the worker, whose body of this step waits, gives back what it has claimed, and goes on with it once others have committed: if it keeps nothing, the step's bodies are light, others run something, and it has not waited
-    /// so in vain. `running` is the number of all instances that run. What it claims next stands in the order of the queue then: if each of these instances waited, it would be woken and run anew
-    /// one by one.
-    pub(crate) fn stands_back(&mut self, step: StepCollection, kept: usize, running: usize) -> bool
-        ensures { self.new.claimed ≡ self.old.claimed }
-    {
-        let own = self.claimed.len().saturating_add(1);
-        if kept > 0 || !self.is_light(step) || self.in_vain || running <= own {
-            return false;
-        }
-        self.waits = true;
-        self.left = true;
-        true
-    }
-
-    /// Notes that an instance of this step waits, behind one whose result is kept: what waits for that result is run before the others that are claimed, most of which may come later.
-    pub(crate) fn note_wait(&mut self, step: StepCollection, keeps: bool)
-        ensures { self.new.claimed ≡ self.old.claimed }
-    {
-        self.chases = keeps && self.is_light(step);
-    }
-
-    /// Notes how many statements and puts a body has made, and whether results are kept beside it.
-    pub(crate) fn note(&mut self, statements: u32, puts: usize, keeps: bool)
-        ensures { self.new.claimed ≡ self.old.claimed }
-    {
-        if !keeps {
-            self.spent = 0;
-            self.puts = 0;
-            self.looked = 0;
-            self.light = true;
-        }
-        self.slow = statements >= LONG;
-        self.light = self.light && statements < LIGHT;
-        self.puts = self.puts.saturating_add(puts);
-        self.spent = self.spent.saturating_add(statements).saturating_add(VISIT);
-    }
-
-    /// What is kept, if a body may look for items there: if it has few puts, and `FEW` instances or more were ready at once so far, `ready` being those that are now. In a
-    /// run that never has so many, a record has no more ends than it would have if each body read what is committed alone.
-    pub(crate) fn ahead<'k, 'a>(
-        &mut self,
-        kept: &'k Option<Batch<'a>>,
+        kept: &'k Option<Batch<'b>>,
         ready: usize,
-    ) -> Option<&'k Batch<'a>>
+    ) -> Option<&'k Batch<'b>>
         ensures kept { (kept_of result ≡ None) ⊎ (kept_of result ≡ kept.now) }
-        ensures claimed { self.new.claimed ≡ self.old.claimed }
+        ensures same { HasTheSame self.old self.new }
     {
-        self.many = self.many || ready >= FEW;
-        if self.has_many_puts() || !self.many {
+        if !self.pace.looks_ahead(ready) {
             return None;
         }
         match kept {
@@ -192,40 +103,9 @@ impl Hand {
         }
     }
 
-    /// Before the worker with this number commits: it rests afterwards if others have committed since it did, bodies are light, and nothing else is claimed. Then a worker with a smaller number does
-    /// the work as fast.
-    pub(crate) fn before_commit(&mut self, number: usize, batches: usize)
-        ensures { self.new.claimed ≡ self.old.claimed }
-    {
-        let crowded = batches != self.batches;
-        self.rests = crowded && self.light && number > 0 && self.claimed.is_empty();
-        if !self.light {
-            self.rested = 0;
-        }
-    }
-
-    /// After it has committed: how many batches were.
-    pub(crate) fn after_commit(&mut self, batches: usize)
-        ensures { self.new.claimed ≡ self.old.claimed }
-    {
-        self.batches = batches;
-        self.chases = false;
-        self.woken = 0;
-    }
-
-    /// Whether the last body took long.
-    pub(crate) fn is_slow(&self) -> bool {
-        self.slow
-    }
-
-    /// Whether what is kept has so many puts that bodies do not look for items there.
-    pub(crate) fn has_many_puts(&self) -> bool {
-        self.puts > FEW_PUTS
-    }
-
-    /// Whether results that are kept are to be committed now, since others may have waited for them for long.
-    pub(crate) fn is_due(&self) -> bool {
-        self.spent >= LONG
+    /// How many instances it has claimed and not committed, if it keeps this number of results and one body waits.
+    pub(crate) fn own(&self, kept: usize) -> usize {
+        self.claimed.len().saturating_add(kept).saturating_add(1)
     }
 
     /// The next instance to run, if there is one: it was claimed before, or is now, with others. Says whether an instance runs then. After
@@ -239,48 +119,91 @@ impl Hand {
         pass: &mut WorkPass<J>,
         kept: &Option<Batch<'_>>,
     ) -> Result<(Option<Task>, bool), CoreError>
-        requires { AreClaimed J.opening self.old.claimed }
-        ensures claimed { AreClaimed J.opening self.new.claimed }
+        requires { IsHand J.opening pass.old.seen self.old }
+        ensures hand { IsHand J.opening pass.new.seen self.new }
         ensures task { IfOk result (λ next. IfSome next.0 (InstanceIsOf J.opening.graph)) }
         ensures ahead { IsPrefix pass.old.seen pass.new.seen }
         ensures refused { IfErr result RefusesClaims }
     {
         let count = count_of(kept);
-        if self.slow {
+        let pace = self.pace;
+        if pace.is_slow() {
             self.give_back(rt, hub, pass);
             return self.claim(rt, hub, pass, 1);
         }
         if self.chases {
-            self.look_for_waiting(rt, hub, pass, kept)?;
+            self.chase(rt, hub, pass, kept)?;
         }
-        match self.take_next::<J>() {
+        match self.take_next(pass) {
             Some(task) => Ok((Some(task), true)),
             None if commits_first(count, hub.ready()) => self.claim_waiting(rt, hub, pass, kept),
-            None => self.claim(rt, hub, pass, self.most(count)),
+            None => self.claim(rt, hub, pass, pace.most(count)),
         }
     }
 
-    // Takes one of the instances that it has claimed: the last one, if it was found to wait for what is kept, else the first.
-    fn take_next<J: Naming>(&mut self) -> Option<Task>
-        requires { AreClaimed J.opening self.old.claimed }
-        ensures claimed { AreClaimed J.opening self.new.claimed }
+    // Claims what waits for what is kept; or, after an instance has begun to wait, one that is ready.
+    fn chase<J: Naming, D: Disk, R: Wait>(
+        &mut self,
+        rt: &R,
+        hub: &Hub<J, D>,
+        pass: &mut WorkPass<J>,
+        kept: &Option<Batch<'_>>,
+    ) -> Result<(), CoreError>
+        requires { IsHand J.opening pass.old.seen self.old }
+        ensures hand { IsHand J.opening pass.new.seen self.new }
+        ensures ahead { IsPrefix pass.old.seen pass.new.seen }
+        ensures refused { IfErr result RefusesClaims }
+    {
+        if self.woken > 0 {
+            return Ok(());
+        }
+        let before = self.claimed.len();
+        self.look_for_waiting(rt, hub, pass, kept)?;
+        let found = self.claimed.len().saturating_sub(before);
+        let is_stuck = self.stuck;
+        self.stuck = false;
+        self.woken = found;
+        if found > 0 || before == 0 || !is_stuck {
+            return Ok(());
+        }
+        self.claim_front(rt, hub, pass)
+    }
+
+    // Claims one ready instance, which comes before the others.
+    fn claim_front<J: Naming, D: Disk, R: Wait>(
+        &mut self,
+        rt: &R,
+        hub: &Hub<J, D>,
+        pass: &mut WorkPass<J>,
+    ) -> Result<(), CoreError>
+        requires { IsHand J.opening pass.old.seen self.old }
+        ensures hand { IsHand J.opening pass.new.seen self.new }
+        ensures ahead { IsPrefix pass.old.seen pass.new.seen }
+        ensures refused { IfErr result RefusesClaims }
+    {
+        let before = self.claimed.len();
+        match hub.claim_some(rt, pass, &mut self.claimed, 1) {
+            Ok(_) => {
+                self.woken = self.claimed.len().saturating_sub(before);
+                Ok(())
+            }
+            Err(error) => Err(error),
+        }
+    }
+
+    // Takes one of the instances that it has claimed: the last one, if it comes before the others, else the first.
+    fn take_next<J: Naming>(&mut self, pass: &WorkPass<J>) -> Option<Task>
+        requires { IsHand J.opening pass.now.seen self.old }
+        ensures hand { IsHand J.opening pass.now.seen self.new }
         ensures task { IfSome result (InstanceIsOf J.opening.graph) }
     {
+        let _ = pass;
         if self.woken > 0 {
             self.woken -= 1;
             return self.claimed.take_last();
         }
         self.chases = false;
         self.claimed.take_first()
-    }
-
-    // How many instances it claims at once, if it keeps this number of results. A worker that left the work to others, or gave back what it had claimed, claims one, to see whether it can go on.
-    fn most(&self, kept: usize) -> usize {
-        if self.left {
-            1
-        } else {
-            MOST_KEPT.saturating_sub(kept)
-        }
     }
 
     // Claims instances that wait for items which are kept, and takes the first of them.
@@ -291,15 +214,14 @@ impl Hand {
         pass: &mut WorkPass<J>,
         kept: &Option<Batch<'_>>,
     ) -> Result<(Option<Task>, bool), CoreError>
-        requires { AreClaimed J.opening self.old.claimed }
-        ensures claimed { AreClaimed J.opening self.new.claimed }
+        requires { IsHand J.opening pass.old.seen self.old }
+        ensures hand { IsHand J.opening pass.new.seen self.new }
         ensures task { IfOk result (λ next. IfSome next.0 (InstanceIsOf J.opening.graph)) }
         ensures ahead { IsPrefix pass.old.seen pass.new.seen }
         ensures refused { IfErr result RefusesClaims }
     {
         self.look_for_waiting(rt, hub, pass, kept)?;
-        self.woken = 0;
-        Ok((self.claimed.take_first(), true))
+        Ok((self.take_next(pass), true))
     }
 
     // Claims instances that wait for items which are kept, if bodies may read these. Each result is looked at once.
@@ -310,8 +232,8 @@ impl Hand {
         pass: &mut WorkPass<J>,
         kept: &Option<Batch<'_>>,
     ) -> Result<(), CoreError>
-        requires { AreClaimed J.opening self.old.claimed }
-        ensures claimed { AreClaimed J.opening self.new.claimed }
+        requires { IsHand J.opening pass.old.seen self.old }
+        ensures hand { IsHand J.opening pass.new.seen self.new }
         ensures ahead { IsPrefix pass.old.seen pass.new.seen }
         ensures refused { IfErr result RefusesClaims }
     {
@@ -321,7 +243,6 @@ impl Hand {
         if self.looked >= batch.len() {
             return Ok(());
         }
-        let before = self.claimed.len();
         let most = MOST_KEPT.saturating_sub(batch.len());
         let mut visit = hub.visit(rt);
         for number in self.looked..batch.len() {
@@ -332,8 +253,6 @@ impl Hand {
             visit.claim_waiting(pass, &mut self.claimed, batch.puts(number), left)?;
             self.looked = number + 1;
         }
-        let found = self.claimed.len().saturating_sub(before);
-        self.woken = self.woken.saturating_add(found);
         Ok(())
     }
 
@@ -345,8 +264,8 @@ impl Hand {
         pass: &mut WorkPass<J>,
         most: usize,
     ) -> Result<(Option<Task>, bool), CoreError>
-        requires { AreClaimed J.opening self.old.claimed }
-        ensures claimed { AreClaimed J.opening self.new.claimed }
+        requires { IsHand J.opening pass.old.seen self.old }
+        ensures hand { IsHand J.opening pass.new.seen self.new }
         ensures task { IfOk result (λ next. IfSome next.0 (InstanceIsOf J.opening.graph)) }
         ensures ahead { IsPrefix pass.old.seen pass.new.seen }
         ensures refused { IfErr result RefusesClaims }
@@ -364,10 +283,14 @@ impl Hand {
         hub: &Hub<J, D>,
         pass: &mut WorkPass<J>,
     )
+        requires { IsHand J.opening pass.old.seen self.old }
+        ensures hand { IsHand J.opening pass.new.seen self.new }
         ensures none { self.new.claimed ≡ [] }
         ensures ahead { IsPrefix pass.old.seen pass.new.seen }
     {
         self.woken = 0;
+        self.stuck = false;
+        self.chases = false;
         if self.claimed.is_empty() {
             return;
         }
@@ -383,30 +306,17 @@ impl Hand {
     {
         let Hand {
             claimed,
-            slow: _,
-            spent: _,
-            puts: _,
+            waiting,
+            pace: _,
             looked: _,
-            many: _,
-            light: _,
-            heavy: _,
-            batches: _,
-            rests: _,
-            rested: _,
-            left: _,
-            vain: _,
-            waits: _,
-            in_vain: _,
+            stuck: _,
+            tried: _,
             chases: _,
             woken: _,
         } = self;
+        drop(waiting);
         claimed.end();
     }
-}
-
-// The bit of a step.
-fn bit_of(step: StepCollection) -> u64 {
-    1u64 << (step.0 % STEPS)
 }
 
 /// How many results are kept.

@@ -12,10 +12,13 @@ mod crew;
 mod driver;
 mod driving;
 mod hand;
+mod pace;
 mod probe;
+mod resuming;
 mod running;
 mod settling;
 mod team;
+mod waiting;
 mod worker;
 
 pub use crew::Crew;

@@ -9,8 +9,9 @@ ghost use Rattle.hub.specs.Running.{WaitsIn};
 ghost use Rattle.hub.specs.Tasks.{OnTask};
 ghost use Rattle.hub.specs.declared.error.BatchError.TheVariants.{Refused as AllRefused};
 ghost use Rattle.pool.specs.declared.worker.Met.TheVariants.{Asked as MetAsked, Full as MetFull};
-ghost use Rattle.pool.specs.Worked.{Justifies, came_after, met_after, met_by};
+ghost use Rattle.pool.specs.Worked.{IsHand, Justifies, came_after, met_after, met_by};
 
+use crate::hand::Hand;
 use crate::worker::Met;
 use commit::{Batch, CoreError, Outcome};
 use disk::Disk;
@@ -22,21 +23,26 @@ use std::sync::Wait;
 use steplang::Run;
 use vault::VaultError;
 
-/// Lets the instance wait for the item that its body asks for.
+/// Lets the instance wait for the item that its body asks for. Its run is kept.
 pub(crate) fn park<'a, J: Naming, D: Disk, R: Wait>(
     rt: &R,
     hub: &'a Hub<J, D>,
     pass: &mut WorkPass<J>,
+    hand: &mut Hand<'a>,
     task: Task,
     run: Run<'a>,
 ) -> Option<Met>
-    requires { WaitsIn J.opening.graph (facts_behind J.opening pass.old.seen) task run }
+    requires run { WaitsIn J.opening.graph (facts_behind J.opening pass.old.seen) task run }
+    requires hand { IsHand J.opening pass.old.seen hand.old }
+    ensures hand { IsHand J.opening pass.new.seen hand.new }
     ensures ahead { IsPrefix pass.old.seen pass.new.seen }
     ensures asked { result ≡ Some MetAsked → ⊥ }
     ensures full { result ≡ Some MetFull → ⊥ }
 {
     let parked = run.park();
-    settled(rt, hub.park(rt, pass, task, parked))
+    let met = settled(rt, hub.park(rt, pass, task, &parked));
+    hand.waiting.keep(pass, parked);
+    met
 }
 
 /// Commits the outcome of an instance by itself.
@@ -48,6 +54,7 @@ pub(crate) fn finish<'a, J: Naming, D: Disk, R: Wait>(
     outcome: Outcome<'a>,
 ) -> Option<Met>
     requires { IsOutcomeIn J.opening.graph (facts_behind J.opening pass.old.seen) task outcome }
+    ensures ahead { IsPrefix pass.old.seen pass.new.seen }
     ensures asked { result ≡ Some MetAsked → ⊥ }
     ensures full { Justifies J.opening result pass.new }
 {

@@ -104,7 +104,7 @@ pub(crate) fn run_team<
     requires passes { (blank.envs ≡ 0) × (blank.workers ≡ workers + 1) }
     requires working { is_halted core ≡ false }
     requires idle { NoneRuns core }
-    ensures works { WorksOn D.files D.moment D.left_at D.failures D.refusals (IsTrue D.is_honest) core result.0 result.1.full }
+    ensures works { WorksOn D.Disk core result.0 result.1.full }
     ensures idle { NoneRuns result.0 }
     ensures asked { result.1.asked ≡ true → P.may_stop ≡ true }
 {

@@ -1,12 +1,14 @@
 //! What one worker does.
 ghost use Rattle.std.specs.Prelude.{◌≡◌, None, Some, true};
+ghost use mathlib.Core.List.{IsPrefix};
 ghost use Rattle.pool.specs.declared.worker.Met.TheVariants.{Asked as MetAsked, Full as MetFull};
 ghost use Rattle.pool.specs.declared.worker.Turned.TheVariants.{Ends};
-ghost use Rattle.pool.specs.Worked.{AreClaimed, AreKept, IsTurned, Justifies, turned_by};
+ghost use Rattle.pool.specs.Worked.{AreKept, IsHand, IsTurned, Justifies, turned_by};
 
 use crate::Probe;
 use crate::committing::{commit_kept, exchange};
 use crate::hand::Hand;
+use crate::pace::Pace;
 use crate::running::run_task;
 use crate::settling::stopped_by;
 use commit::Batch;
@@ -76,14 +78,6 @@ const SPINS: u32 = 8;
 // How often a worker that gave back what it had claimed looks whether others have committed, before it lets instances wait. Others that run light bodies commit within that time.
 const PATIENCE: u32 = 1024;
 
-// How often a worker that rests looks whether others go on without it. Each rest in a row doubles this, up to `RESTS` times. If nothing was committed in the last
-// `QUIET` looks, once for its number, the worker is needed.
-const RESTING: u32 = 4096;
-
-const RESTS: u32 = 4;
-
-const QUIET: usize = 4096;
-
 /// Runs instances until there is nothing to do, or a stop was asked for.
 pub(crate) fn work<J: Naming, D: Disk, P: Probe, R: Wait>(
     rt: &R,
@@ -119,21 +113,23 @@ fn run_all<J: Naming, D: Disk, P: Probe, R: Wait>(
     };
     let met = take_turns(rt, alloc, hub, pass, probe, &mut hand);
     hand.give_back(rt, hub, pass);
+    hand.pace.end_lead(hub);
     hand.end();
     met
 }
 
 // Takes one turn after another. The worker keeps results, and commits what it keeps when it is as many as it may keep, when no instance is to be claimed, after a body
 // that took long, and before it ends.
-fn take_turns<J: Naming, D: Disk, P: Probe, R: Wait>(
+fn take_turns<'a, J: Naming, D: Disk, P: Probe, R: Wait>(
     rt: &R,
     alloc: Global,
-    hub: &Hub<J, D>,
+    hub: &'a Hub<J, D>,
     pass: &mut WorkPass<J>,
     probe: &P,
-    hand: &mut Hand,
+    hand: &mut Hand<'a>,
 ) -> Option<Met>
-    requires { AreClaimed J.opening hand.old.claimed }
+    requires { IsHand J.opening pass.old.seen hand.old }
+    ensures hand { IsHand J.opening pass.new.seen hand.new }
     ensures asked { result ≡ Some MetAsked → P.may_stop ≡ true }
     ensures full { Justifies J.opening result pass.new }
 {
@@ -154,12 +150,12 @@ fn turn<'a, J: Naming, D: Disk, P: Probe, R: Wait>(
     hub: &'a Hub<J, D>,
     pass: &mut WorkPass<J>,
     probe: &P,
-    hand: &mut Hand,
+    hand: &mut Hand<'a>,
     kept: Option<Batch<'a>>,
 ) -> Turned<'a>
-    requires claimed { AreClaimed J.opening hand.old.claimed }
+    requires hand { IsHand J.opening pass.old.seen hand.old }
     requires kept { AreKept J.opening pass.old kept }
-    ensures claimed { AreClaimed J.opening hand.new.claimed }
+    ensures hand { IsHand J.opening pass.new.seen hand.new }
     ensures turned { IsTurned J.opening pass.new result }
     ensures asked { result ≡ Ends (Some MetAsked) → P.may_stop ≡ true }
 {
@@ -169,11 +165,11 @@ fn turn<'a, J: Naming, D: Disk, P: Probe, R: Wait>(
     if hub.stop_asked(pass) {
         return Turned::Ends(commit_kept(rt, hub, pass, kept));
     }
-    if hand.rests {
-        rest(hub, pass.number(), hand);
+    if hand.pace.gives_way(hub, pass.number()) {
+        return give_way(rt, hub, pass, hand, kept);
     }
-    if hand.waits {
-        wait_for_others(hub, hand);
+    if hand.pace.waits {
+        wait_for_others(hub, &mut hand.pace);
     }
     match hand.next(rt, hub, pass, &kept) {
         Ok((Some(task), _)) => run_task(rt, alloc, hub, pass, probe, hand, task, kept),
@@ -182,18 +178,44 @@ fn turn<'a, J: Naming, D: Disk, P: Probe, R: Wait>(
     }
 }
 
+// Leaves the work to the worker that leads: gives back what is claimed, in its order, commits what is kept, and sleeps as long as the other leads; but only for some milliseconds, to see whether
+// the other goes on. The greater its number, the longer it sleeps. It has no lock then.
+fn give_way<'a, J: Naming, D: Disk, R: Wait>(
+    rt: &R,
+    hub: &'a Hub<J, D>,
+    pass: &mut WorkPass<J>,
+    hand: &mut Hand<'a>,
+    kept: Option<Batch<'a>>,
+) -> Turned<'a>
+    requires hand { IsHand J.opening pass.old.seen hand.old }
+    requires kept { AreKept J.opening pass.old kept }
+    ensures hand { IsHand J.opening pass.new.seen hand.new }
+    ensures turned { IsTurned J.opening pass.new result }
+    ensures asked { result ≡ Ends (Some MetAsked) → ⊥ }
+{
+    facts_are_told_apart();
+    facts_go_on();
+    results_are_meant();
+    hand.give_back(rt, hub, pass);
+    let met = commit_kept(rt, hub, pass, kept);
+    let before = hub.batches();
+    hub.nap(rt, (pass.number() as u64).saturating_add(1));
+    hand.pace.note_nap(hub.batches() != before);
+    goes_on_unless(met)
+}
+
 // No instance is to be claimed: what is kept is committed, and what may be claimed then is, with the same visit of the lock; or the worker waits a little for others; or it ends.
 fn idle<'a, J: Naming, D: Disk, R: Wait>(
     rt: &R,
     hub: &'a Hub<J, D>,
     pass: &mut WorkPass<J>,
-    hand: &mut Hand,
+    hand: &mut Hand<'a>,
     kept: Option<Batch<'a>>,
     busy: bool,
 ) -> Turned<'a>
-    requires claimed { AreClaimed J.opening hand.old.claimed }
+    requires hand { IsHand J.opening pass.old.seen hand.old }
     requires kept { AreKept J.opening pass.old kept }
-    ensures claimed { AreClaimed J.opening hand.new.claimed }
+    ensures hand { IsHand J.opening pass.new.seen hand.new }
     ensures turned { IsTurned J.opening pass.new result }
     ensures asked { result ≡ Ends (Some MetAsked) → ⊥ }
 {
@@ -203,8 +225,9 @@ fn idle<'a, J: Naming, D: Disk, R: Wait>(
             if !busy {
                 return Turned::Ends(None);
             }
-            look_for_work(hub, pass, hand.vain);
-            hand.vain = hand.vain.saturating_add(1);
+            hand.pace.end_lead(hub);
+            look_for_work(hub, pass, hand.pace.vain);
+            hand.pace.vain = hand.pace.vain.saturating_add(1);
             Turned::GoesOn(None)
         }
     }
@@ -220,6 +243,7 @@ pub(crate) fn ends<'a, J: Naming, D: Disk, R: Wait>(
 ) -> Turned<'a>
     requires not_full { met ≡ MetFull → ⊥ }
     requires kept { AreKept J.opening pass.old kept }
+    ensures ahead { IsPrefix pass.old.seen pass.new.seen }
     ensures turned { IsTurned J.opening pass.new result }
     ensures asked { result ≡ Ends (Some MetAsked) → met ≡ MetAsked }
 {
@@ -241,7 +265,9 @@ pub(crate) fn goes_on_unless<'a>(met: Option<Met>) -> Turned<'a>
 
 // Waits a little for an instance to be ready, or until none runs or a stop is asked for. It takes no lock. Where the worker has looked in vain before, what is ready may
 // be beyond the limit: then it waits for a commit, too.
-fn look_for_work<J: Naming, D: Disk>(hub: &Hub<J, D>, pass: &mut WorkPass<J>, vain: u32) {
+fn look_for_work<J: Naming, D: Disk>(hub: &Hub<J, D>, pass: &mut WorkPass<J>, vain: u32)
+    ensures { IsPrefix pass.old.seen pass.new.seen }
+{
     let before = hub.batches();
     for look in 0..(LOOKS << vain.min(DOUBLINGS)) {
         if look < SPINS {
@@ -249,20 +275,31 @@ fn look_for_work<J: Naming, D: Disk>(hub: &Hub<J, D>, pass: &mut WorkPass<J>, va
         } else {
             yield_now();
         }
-        if hub.stop_asked(pass) || hub.running() == 0 {
-            return;
-        }
-        if hub.ready() != 0 && (vain == 0 || hub.batches() != before) {
+        if has_found(hub, pass, vain, before) {
             return;
         }
     }
 }
 
-// Waits a little until others commit, or run nothing. It takes no lock.
-fn wait_for_others<J: Naming, D: Disk>(hub: &Hub<J, D>, hand: &mut Hand)
-    ensures { hand.new.claimed ≡ hand.old.claimed }
+// Whether it need not wait: an instance is ready, where the worker has looked in vain before after a commit alone; or none runs, or a stop was asked for. `before` is how many records were committed when it
+// began to look.
+fn has_found<J: Naming, D: Disk>(
+    hub: &Hub<J, D>,
+    pass: &mut WorkPass<J>,
+    vain: u32,
+    before: usize,
+) -> bool
+    ensures { IsPrefix pass.old.seen pass.new.seen }
 {
-    hand.waits = false;
+    let stopped = hub.stop_asked(pass);
+    if stopped || hub.running() == 0 {
+        return true;
+    }
+    hub.ready() != 0 && (vain == 0 || hub.batches() != before)
+}
+
+// Waits a little until others commit, or run nothing. It takes no lock.
+fn wait_for_others<J: Naming, D: Disk>(hub: &Hub<J, D>, pace: &mut Pace) {
     let before = hub.batches();
     for look in 0..PATIENCE {
         if look < SPINS {
@@ -271,34 +308,9 @@ fn wait_for_others<J: Naming, D: Disk>(hub: &Hub<J, D>, hand: &mut Hand)
             yield_now();
         }
         if hub.batches() != before || hub.running() == 0 {
+            pace.note_waited(true);
             return;
         }
     }
-    hand.in_vain = true;
-}
-
-// Leaves the work to others for a while, as long as they go on. It takes no lock.
-fn rest<J: Naming, D: Disk>(hub: &Hub<J, D>, number: usize, hand: &mut Hand)
-    ensures { hand.new.claimed ≡ hand.old.claimed }
-{
-    let most_quiet = QUIET.saturating_mul(number);
-    let looks = RESTING << hand.rested.min(RESTS);
-    hand.rests = false;
-    hand.rested = hand.rested.saturating_add(1);
-    let mut last = hub.batches();
-    let mut quiet = 0usize;
-    for _ in 0..looks {
-        yield_now();
-        let now = hub.batches();
-        if now == last {
-            quiet = quiet.saturating_add(1);
-        } else {
-            quiet = 0;
-        }
-        last = now;
-        if hub.running() == 0 || quiet > most_quiet {
-            hand.rested = 0;
-            return;
-        }
-    }
+    pace.note_waited(false);
 }

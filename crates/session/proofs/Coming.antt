@@ -1,10 +1,9 @@
 -- How a core goes on by a call, and by several, one after another.
-use Rattle.std.proofs.Common.{◌≡◌, ◌∙◌, ◌≤◌, ◌++◌, ap, refl, sym, subst, inl, inr, ℕ, Bool, true, false, List, [], ◌∷◌, Result, Err, arith}
+use Rattle.disk.specs.declared.storage.Disk.{Ghosts}
+use Rattle.std.proofs.Common.{◌≡◌, ◌∙◌, ◌≤◌, ◌++◌, ap, refl, sym, subst, inl, inr, Bool, true, false, List, [], ◌∷◌, Result, Err, arith, IsTrue}
 use Rattle.std.proofs.lemmas.Bool.{false≢true}
 use Rattle.std.proofs.lemmas.List.{append_assoc, append-nil}
-use Rattle.disk.specs.declared.side.Side.{Side}
 use Rattle.disk.specs.Erred.{later_erred, erred_later}
-use Rattle.disk.specs.File.{File}
 use Rattle.disk.specs.Moments.{joined}
 use Rattle.disk.specs.Time.{Contents, LeavesOnly, HasErred}
 use Rattle.terms.specs.declared.event.Event.{Event}
@@ -59,12 +58,12 @@ behind both g h E F X Y first more contents graph given all it =
           (ap (λ (S : Facts). facts_behind S it.made) all ∙ sym (facts_joined both X first it.made)) of_given;
     }
 
-module _ {D : Type 0} (files : D → Side → File) (moment : D → ℕ) (left_at : D → ℕ → Contents → Type 0) (failures refusals : D → ℕ) (honest : Type 0) where
+module _ {D : Type 0} (storage : Ghosts D) where
   -- ---- one after another
 
-  module _ (both : AmongBoth) (gates_stay : honest → GatesStay files moment left_at) (old mid new : Core D) (first second : List Commit) where
-    went_on : is_halted mid ≡ false → mid.in_doubt ≡ [] → failures old.vault.disk ≤ failures mid.vault.disk
-        → Went files moment left_at failures refusals honest old mid first → Went files moment left_at failures refusals honest mid new second → Went files moment left_at failures refusals honest old new (first ++ second)
+  module _ (both : AmongBoth) (gates_stay : IsTrue storage.is_honest → GatesStay storage.files storage.moment storage.left_at) (old mid new : Core D) (first second : List Commit) where
+    went_on : is_halted mid ≡ false → mid.in_doubt ≡ [] → storage.failures old.vault.disk ≤ storage.failures mid.vault.disk
+        → Went storage old mid first → Went storage mid new second → Went storage old new (first ++ second)
     went_on working settled later one two =
         let all_of_first = subst (λ (events : List Event). events_of first ++ events ≡ events_of first) (sym settled) (append-nil (events_of first)) in
         let all_commits = subst (λ (events : List Event). first ++ in_one events ≡ first) (sym settled) (append-nil first) in
@@ -74,7 +73,7 @@ module _ {D : Type 0} (files : D → Side → File) (moment : D → ℕ) (left_a
         ap (λ (events : List Event). events ++ new.in_doubt) (events_joined first second) ∙ append_assoc (events_of first) (events_of second) new.in_doubt
         in
         let pending : (first ++ second) ++ in_one new.in_doubt ≡ first ++ (second ++ in_one new.in_doubt) = append_assoc first second (in_one new.in_doubt) in
-        let calm : HasErred failures refusals old.vault.disk mid.vault.disk → ⊥ = λ erred. false≢true (sym working ∙ one.halts.1 erred) in
+        let calm : HasErred storage.failures storage.refusals old.vault.disk mid.vault.disk → ⊥ = λ erred. false≢true (sym working ∙ one.halts.1 erred) in
         record {
           legal =
               subst (λ (events : List Event). AreLegalFrom (graph old) (facts old) events) (sym order)
@@ -88,8 +87,8 @@ module _ {D : Type 0} (files : D → Side → File) (moment : D → ℕ) (left_a
           generation = λ goes. two.generation goes ∙ one.generation working;
           end = λ goes. ends_behind new.vault.journal.end mid.vault.journal.end old.vault.journal.end (records_length first) (records_length second) (records_length (first ++ second)) (two.end goes) (one.end working) (records_joined first second);
           crashes = λ on.
-              subst (λ (commits : List Commit). LeavesOnly moment left_at old.vault.disk new.vault.disk (StandsForBeginning (graph old) (environment old) (facts old) [] commits)) (sym pending)
-              (joined moment left_at old.vault.disk mid.vault.disk new.vault.disk
+              subst (λ (commits : List Commit). LeavesOnly storage.moment storage.left_at old.vault.disk new.vault.disk (StandsForBeginning (graph old) (environment old) (facts old) [] commits)) (sym pending)
+              (joined storage.moment storage.left_at old.vault.disk mid.vault.disk new.vault.disk
               (StandsForBeginning (graph old) (environment old) (facts old) [] (first ++ in_one mid.in_doubt))
               (StandsForBeginning (graph mid) (environment mid) (facts mid) [] (second ++ in_one new.in_doubt))
               (StandsForBeginning (graph old) (environment old) (facts old) [] (first ++ (second ++ in_one new.in_doubt)))
@@ -101,22 +100,22 @@ module _ {D : Type 0} (files : D → Side → File) (moment : D → ℕ) (left_a
               behind both (graph old) (graph mid) (environment old) (environment mid) (facts old) (facts mid) first (second ++ in_one new.in_doubt) contents one.graph given sets stands));
           acknowledged = λ on.
               let second_leaves = two.crashes on in
-              both_acknowledged (graph old) (environment old) (facts old) (left_at mid.vault.disk) (left_at new.vault.disk) (moment mid.vault.disk) (moment new.vault.disk) second_leaves.later (λ t contents early was. (second_leaves.stays t contents early).0 was)
-              (moment old.vault.disk) [] first second (in_one new.in_doubt) (one.crashes on).later
-              (subst (λ (doubt : List Event). AcknowledgesFrom (graph old) (environment old) (facts old) (left_at mid.vault.disk) (moment mid.vault.disk) (moment old.vault.disk) [] first (in_one doubt)) settled (one.acknowledged on))
-              (subst (λ (made : List Commit). AcknowledgesFrom (graph old) (environment old) (facts old) (left_at new.vault.disk) (moment new.vault.disk) (moment mid.vault.disk) made second (in_one new.in_doubt)) (append-nil first)
-              (carried both (graph old) (graph mid) (environment old) (environment mid) (facts old) (facts mid) first one.graph given sets (left_at new.vault.disk) (moment new.vault.disk) (moment mid.vault.disk) [] second (in_one new.in_doubt) (two.acknowledged on)));
+              both_acknowledged (graph old) (environment old) (facts old) (storage.left_at mid.vault.disk) (storage.left_at new.vault.disk) (storage.moment mid.vault.disk) (storage.moment new.vault.disk) second_leaves.later (λ t contents early was. (second_leaves.stays t contents early).0 was)
+              (storage.moment old.vault.disk) [] first second (in_one new.in_doubt) (one.crashes on).later
+              (subst (λ (doubt : List Event). AcknowledgesFrom (graph old) (environment old) (facts old) (storage.left_at mid.vault.disk) (storage.moment mid.vault.disk) (storage.moment old.vault.disk) [] first (in_one doubt)) settled (one.acknowledged on))
+              (subst (λ (made : List Commit). AcknowledgesFrom (graph old) (environment old) (facts old) (storage.left_at new.vault.disk) (storage.moment new.vault.disk) (storage.moment mid.vault.disk) made second (in_one new.in_doubt)) (append-nil first)
+              (carried both (graph old) (graph mid) (environment old) (environment mid) (facts old) (facts mid) first one.graph given sets (storage.left_at new.vault.disk) (storage.moment new.vault.disk) (storage.moment mid.vault.disk) [] second (in_one new.in_doubt) (two.acknowledged on)));
           gates = λ on has.
               let here = one.gates on has in
-              joined moment left_at old.vault.disk mid.vault.disk new.vault.disk HasGates HasGates HasGates here (two.gates on (gates_stay on old.vault.disk mid.vault.disk here)) (λ c so. so) (λ c so. so);
+              joined storage.moment storage.left_at old.vault.disk mid.vault.disk new.vault.disk HasGates HasGates HasGates here (two.gates on (gates_stay on old.vault.disk mid.vault.disk here)) (λ c so. so) (λ c so. so);
           halts = (
-            λ is. later_erred (failures old.vault.disk) (failures mid.vault.disk) (failures new.vault.disk) (refusals old.vault.disk) (refusals mid.vault.disk) (refusals new.vault.disk) later calm (two.halts.0 is),
-            λ erred. two.halts.1 (erred_later (failures old.vault.disk) (failures mid.vault.disk) (failures new.vault.disk) (refusals old.vault.disk) (refusals mid.vault.disk) (refusals new.vault.disk) later calm erred),
+            λ is. later_erred (storage.failures old.vault.disk) (storage.failures mid.vault.disk) (storage.failures new.vault.disk) (storage.refusals old.vault.disk) (storage.refusals mid.vault.disk) (storage.refusals new.vault.disk) later calm (two.halts.0 is),
+            λ erred. two.halts.1 (erred_later (storage.failures old.vault.disk) (storage.failures mid.vault.disk) (storage.failures new.vault.disk) (storage.refusals old.vault.disk) (storage.refusals mid.vault.disk) (storage.refusals new.vault.disk) later calm erred),
           );
         }
 
     -- nothing comes after a halt
-    went_still : is_halted mid ≡ true → second ≡ [] → KeepsStore mid new → Went files moment left_at failures refusals honest old mid first → Went files moment left_at failures refusals honest old new (first ++ second)
+    went_still : is_halted mid ≡ true → second ≡ [] → KeepsStore mid new → Went storage old mid first → Went storage old new (first ++ second)
     went_still stops nothing same one =
         let all : first ++ second ≡ first = ap (λ (commits : List Commit). first ++ commits) nothing ∙ append-nil first in
         let doubt : events_of first ++ mid.in_doubt ≡ events_of (first ++ second) ++ new.in_doubt = λ i. events_of (sym all i) ++ sym same.in_doubt i in
@@ -129,23 +128,23 @@ module _ {D : Type 0} (files : D → Side → File) (moment : D → ℕ) (left_a
           generation = λ goes. absurd (false≢true (sym goes ∙ same.vault.halted ∙ stops));
           end = λ goes. absurd (false≢true (sym goes ∙ same.vault.halted ∙ stops));
           crashes = λ on.
-              subst (λ (d : D). LeavesOnly moment left_at old.vault.disk d (StandsForBeginning (graph old) (environment old) (facts old) [] ((first ++ second) ++ in_one new.in_doubt))) (sym same.vault.disk)
-              (subst (λ (commits : List Commit). LeavesOnly moment left_at old.vault.disk mid.vault.disk (StandsForBeginning (graph old) (environment old) (facts old) [] commits)) pending (one.crashes on));
+              subst (λ (d : D). LeavesOnly storage.moment storage.left_at old.vault.disk d (StandsForBeginning (graph old) (environment old) (facts old) [] ((first ++ second) ++ in_one new.in_doubt))) (sym same.vault.disk)
+              (subst (λ (commits : List Commit). LeavesOnly storage.moment storage.left_at old.vault.disk mid.vault.disk (StandsForBeginning (graph old) (environment old) (facts old) [] commits)) pending (one.crashes on));
           acknowledged = λ on.
-              subst (λ (at : D × List Commit × List Event). AcknowledgesFrom (graph old) (environment old) (facts old) (left_at at.0) (moment at.0) (moment old.vault.disk) [] at.1 (in_one at.2))
+              subst (λ (at : D × List Commit × List Event). AcknowledgesFrom (graph old) (environment old) (facts old) (storage.left_at at.0) (storage.moment at.0) (storage.moment old.vault.disk) [] at.1 (in_one at.2))
               (λ i. (sym same.vault.disk i, sym all i, sym same.in_doubt i)) (one.acknowledged on);
-          gates = λ on has. subst (λ (d : D). LeavesOnly moment left_at old.vault.disk d HasGates) (sym same.vault.disk) (one.gates on has);
+          gates = λ on has. subst (λ (d : D). LeavesOnly storage.moment storage.left_at old.vault.disk d HasGates) (sym same.vault.disk) (one.gates on has);
           halts = (
-            λ is. subst (λ (d : D). HasErred failures refusals old.vault.disk d) (sym same.vault.disk) (one.halts.0 (sym same.vault.halted ∙ is)),
-            λ erred. same.vault.halted ∙ one.halts.1 (subst (λ (d : D). HasErred failures refusals old.vault.disk d) same.vault.disk erred),
+            λ is. subst (λ (d : D). HasErred storage.failures storage.refusals old.vault.disk d) (sym same.vault.disk) (one.halts.0 (sym same.vault.halted ∙ is)),
+            λ erred. same.vault.halted ∙ one.halts.1 (subst (λ (d : D). HasErred storage.failures storage.refusals old.vault.disk d) same.vault.disk erred),
           );
         }
 
     -- a call after others
-    pub joined_on : GoesOn files moment left_at failures refusals honest old mid first → GoesOn files moment left_at failures refusals honest mid new second → GoesOn files moment left_at failures refusals honest old new (first ++ second)
+    pub joined_on : GoesOn storage old mid first → GoesOn storage mid new second → GoesOn storage old new (first ++ second)
     joined_on one two = record { went = λ working. at working (is_halted mid) refl; stays = λ halted. still halted; settled = two.settled; later = omega (arith, one.later, two.later) }
       where
-        at : is_halted old ≡ false → (b : Bool) → is_halted mid ≡ b → Went files moment left_at failures refusals honest old new (first ++ second)
+        at : is_halted old ≡ false → (b : Bool) → is_halted mid ≡ b → Went storage old new (first ++ second)
         at working false goes = went_on goes (one.settled goes) one.later (one.went working) (two.went goes)
         at working true stops = let last = two.stays stops in went_still stops last.1 last.0 (one.went working)
 
@@ -165,21 +164,21 @@ module _ {D : Type 0} (files : D → Side → File) (moment : D → ℕ) (left_a
             )
 
   -- the same by what the commits have
-  pub joined_by : AmongBoth → (honest → GatesStay files moment left_at) → (old mid new : Core D) (first second : List Event) → GoesOnBy files moment left_at failures refusals honest old mid first
-      → GoesOnBy files moment left_at failures refusals honest mid new second → GoesOnBy files moment left_at failures refusals honest old new (first ++ second)
+  pub joined_by : AmongBoth → (IsTrue storage.is_honest → GatesStay storage.files storage.moment storage.left_at) → (old mid new : Core D) (first second : List Event) → GoesOnBy storage old mid first
+      → GoesOnBy storage mid new second → GoesOnBy storage old new (first ++ second)
   joined_by both gates_stay old mid new first second one two = record {
     commits = one.commits ++ two.commits;
     order = events_joined one.commits two.commits ∙ (λ i. one.order i ++ two.order i);
     goes_on = joined_on both gates_stay old mid new one.commits two.commits one.goes_on two.goes_on;
   }
 
-  module _ (leaves : honest → RestLeaves files moment left_at) (gates_rest : honest → GatesRest files moment left_at) where
+  module _ (leaves : IsTrue storage.is_honest → RestLeaves storage.files storage.moment storage.left_at) (gates_rest : IsTrue storage.is_honest → GatesRest storage.files storage.moment storage.left_at) where
     -- ---- puts
 
-    module _ {T : Type 0} (append : honest → AppendLeaves files moment left_at) (held : honest → HeldLeaves files moment left_at) (old new : Core D) (event : Event) (why : Refusal → Type 0) (kept : honest → IsKept files old) (kept_after : honest → IsKept files new) (settled : is_halted old ≡ false → old.in_doubt ≡ []) where
+    module _ {T : Type 0} (append : IsTrue storage.is_honest → AppendLeaves storage.files storage.moment storage.left_at) (held : IsTrue storage.is_honest → HeldLeaves storage.files storage.moment storage.left_at) (old new : Core D) (event : Event) (why : Refusal → Type 0) (kept : IsTrue storage.is_honest → IsKept storage.files old) (kept_after : IsTrue storage.is_honest → IsKept storage.files new) (settled : is_halted old ≡ false → old.in_doubt ≡ []) where
       -- the put was committed
-      pub committed : (result : Result T CoreError) → Takes old new event → new.in_doubt ≡ [] → (is_halted old ≡ false → honest → CrashLeaves files moment left_at old new (event ∷ [])) → Halts failures refusals old new result
-          → GoesOn files moment left_at failures refusals honest old new ((event ∷ []) ∷ [])
+      pub committed : (result : Result T CoreError) → Takes old new event → new.in_doubt ≡ [] → (is_halted old ≡ false → IsTrue storage.is_honest → CrashLeaves storage.files storage.moment storage.left_at old new (event ∷ [])) → Halts storage.failures storage.refusals old new result
+          → GoesOn storage old new ((event ∷ []) ∷ [])
       committed result takes none moments halts =
           let one : event ∷ [] ++ new.in_doubt ≡ event ∷ [] = ap (λ (events : List Event). event ∷ events) none in
           record {
@@ -191,9 +190,9 @@ module _ {D : Type 0} (files : D → Side → File) (moment : D → ℕ) (left_a
               generation = λ _. takes.generation;
               end = λ _. with_record new.vault.journal.end old.vault.journal.end (record_length event) takes.moved;
               crashes = λ on.
-                  subst (λ (events : List Event). LeavesOnly moment left_at old.vault.disk new.vault.disk (StandsForBeginning (graph old) (environment old) (facts old) [] ((event ∷ []) ∷ in_one events))) (sym none)
-                  (begins files moment left_at failures refusals honest append old new event on (moments working on));
-              acknowledged = λ on. acknowledged_once files moment left_at failures refusals honest append held old new event takes (moments working) kept_after on;
+                  subst (λ (events : List Event). LeavesOnly storage.moment storage.left_at old.vault.disk new.vault.disk (StandsForBeginning (graph old) (environment old) (facts old) [] ((event ∷ []) ∷ in_one events))) (sym none)
+                  (begins storage append old new event on (moments working on));
+              acknowledged = λ on. acknowledged_once storage append held old new event takes (moments working) kept_after on;
               gates = λ on has. (moments working on).gates has;
               halts = (λ halted. elim (halts.halts.0 halted) [ inl before ↦ absurd (false≢true (sym working ∙ before)) | inr erred ↦ erred ], λ erred. halts.halts.1 (inr erred));
             };
@@ -203,8 +202,8 @@ module _ {D : Type 0} (files : D → Side → File) (moment : D → ℕ) (left_a
           }
 
       -- it was refused
-      pub refused : (error : CoreError) → IsUnchanged old new → Refuses old why event error → IsInDoubt {T = T} old new event (Err error) → (is_halted old ≡ false → honest → CrashLeaves files moment left_at old new (event ∷ []))
-          → Halts {T = T} failures refusals old new (Err error) → GoesOn files moment left_at failures refusals honest old new []
+      pub refused : (error : CoreError) → IsUnchanged old new → Refuses old why event error → IsInDoubt {T = T} old new event (Err error) → (is_halted old ≡ false → IsTrue storage.is_honest → CrashLeaves storage.files storage.moment storage.left_at old new (event ∷ []))
+          → Halts {T = T} storage.failures storage.refusals old new (Err error) → GoesOn storage old new []
       refused error same refuses doubt moments halts =
           record { went = λ working. at working (is_halted new) refl; stays = λ halted. (still halted, refl); settled = λ goes. by_old goes (is_halted old) refl; later = halts.disk.later }
         where
@@ -218,16 +217,16 @@ module _ {D : Type 0} (files : D → Side → File) (moment : D → ℕ) (left_a
           by_old goes false working = (halts.same (goes ∙ sym working)).1 ∙ settled working
           by_old goes true halted = absurd (false≢true (sym goes ∙ halts.halts.1 (inl halted)))
 
-          at : is_halted old ≡ false → (b : Bool) → is_halted new ≡ b → Went files moment left_at failures refusals honest old new []
+          at : is_halted old ≡ false → (b : Bool) → is_halted new ≡ b → Went storage old new []
           at working false goes =
               let kept_so = halts.same (goes ∙ sym working) in
-              of_run files moment left_at failures refusals honest old new new.allowance []
-              (rests files moment left_at failures refusals honest leaves gates_rest (with_allowance old new.allowance) new working (λ on. record { holds = (kept on).holds; left = (kept on).left })
+              of_run storage old new new.allowance []
+              (rests storage leaves gates_rest (with_allowance old new.allowance) new working (λ on. record { holds = (kept on).holds; left = (kept on).left })
               (record { graph = same.stays.graph; facts = same.stays.facts; environment = same.stays.environment; allowance = refl; latest = same.stays.latest; disk = kept_so.0.disk; generation = kept_so.0.generation; end = kept_so.0.end; halted = goes; settled = kept_so.1 ∙ settled working }))
           at working true stops =
               let in_doubt : new.in_doubt ≡ event ∷ [] = doubt working stops in
-              let erred : HasErred failures refusals old.vault.disk new.vault.disk = elim (halts.halts.0 stops) [ inl before ↦ absurd (false≢true (sym working ∙ before)) | inr it ↦ it ] in
-              let legal = legal_in_doubt files moment left_at failures refusals honest old new why event error refuses halts erred in
+              let erred : HasErred storage.failures storage.refusals old.vault.disk new.vault.disk = elim (halts.halts.0 stops) [ inl before ↦ absurd (false≢true (sym working ∙ before)) | inr it ↦ it ] in
+              let legal = legal_in_doubt storage old new why event error refuses halts erred in
               record {
                 legal = subst (λ (events : List Event). AreLegalFrom (graph old) (facts old) events) (sym in_doubt) (legal, tt);
                 graph = same.stays.graph;
@@ -236,19 +235,19 @@ module _ {D : Type 0} (files : D → Side → File) (moment : D → ℕ) (left_a
                 generation = λ goes. absurd (false≢true (sym goes ∙ stops));
                 end = λ goes. absurd (false≢true (sym goes ∙ stops));
                 crashes = λ on.
-                    subst (λ (events : List Event). LeavesOnly moment left_at old.vault.disk new.vault.disk (StandsForBeginning (graph old) (environment old) (facts old) [] (in_one events))) (sym in_doubt)
-                    (begins files moment left_at failures refusals honest append old new event on (moments working on));
+                    subst (λ (events : List Event). LeavesOnly storage.moment storage.left_at old.vault.disk new.vault.disk (StandsForBeginning (graph old) (environment old) (facts old) [] (in_one events))) (sym in_doubt)
+                    (begins storage append old new event on (moments working on));
                 acknowledged = λ on t contents after before was.
                     subst (λ (events : List Event). StandsForBeginning (graph old) (environment old) (facts old) [] (in_one events) contents) (sym in_doubt)
-                    ((begins files moment left_at failures refusals honest append old new event on (moments working on)).each t contents after before was);
+                    ((begins storage append old new event on (moments working on)).each t contents after before was);
                 gates = λ on has. (moments working on).gates has;
                 halts = (λ _. erred, λ _. stops);
               }
 
 -- ---- what is there afterwards
 
-module _ {D : Type 0} (files : D → Side → File) (moment : D → ℕ) (left_at : D → ℕ → Contents → Type 0) (failures refusals : D → ℕ) (honest : Type 0) (old new : Core D) (events : List Event)
-    (goes : GoesOnBy files moment left_at failures refusals honest old new events) where
+module _ {D : Type 0} (storage : Ghosts D) (old new : Core D) (events : List Event)
+    (goes : GoesOnBy storage old new events) where
   pub graph_behind : graph new ≡ graph old
   graph_behind = at (is_halted old) refl
     where

@@ -1,9 +1,8 @@
 -- The replies to a put, and to a get that is refused.
-use Rattle.std.proofs.Common.{◌≡◌, ◌≢◌, ◌∙◌, ◌↔◌, ap, refl, sym, inl, inr, ℕ, Bool, true, false, List, [], ◌∷◌, Option, Some, None, Result, Ok, Err, OnOk, OnErr, IfErr, IsErrOf}
+use Rattle.disk.specs.declared.storage.Disk.{Ghosts}
+use Rattle.std.proofs.Common.{◌≡◌, ◌≢◌, ◌∙◌, ◌↔◌, ap, refl, sym, inl, inr, ℕ, Bool, true, false, List, [], ◌∷◌, Option, Some, None, Result, Ok, Err, OnOk, OnErr, IfErr, IsErrOf, IsTrue}
 use Rattle.std.proofs.lemmas.Bool.{false≢true}
-use Rattle.disk.specs.declared.side.Side.{Side}
-use Rattle.disk.specs.File.{File}
-use Rattle.disk.specs.Time.{Contents, HasErred}
+use Rattle.disk.specs.Time.{HasErred}
 use Rattle.terms.specs.declared.name.Inst.{Inst}
 use Rattle.terms.specs.declared.event.Event.{Event}
 use Rattle.terms.specs.Commits.{Commit}
@@ -43,18 +42,18 @@ refused_reply c why event (Store store.Exists) is = absurd is
 
 -- ---- puts
 
-module _ {D T : Type 0} (files : D → Side → File) (moment : D → ℕ) (left_at : D → ℕ → Contents → Type 0) (failures refusals : D → ℕ) (honest : Type 0)
-    (leaves : honest → RestLeaves files moment left_at) (gates_rest : honest → GatesRest files moment left_at) (append : honest → AppendLeaves files moment left_at) (held : honest → HeldLeaves files moment left_at)
-    (old new : Core D) (event : Event) (why : Refusal → Type 0) (kept : honest → IsKept files old) (kept_after : honest → IsKept files new) (settled : is_halted old ≡ false → old.in_doubt ≡ []) where
+module _ {D T : Type 0} (storage : Ghosts D)
+    (leaves : IsTrue storage.is_honest → RestLeaves storage.files storage.moment storage.left_at) (gates_rest : IsTrue storage.is_honest → GatesRest storage.files storage.moment storage.left_at) (append : IsTrue storage.is_honest → AppendLeaves storage.files storage.moment storage.left_at) (held : IsTrue storage.is_honest → HeldLeaves storage.files storage.moment storage.left_at)
+    (old new : Core D) (event : Event) (why : Refusal → Type 0) (kept : IsTrue storage.is_honest → IsKept storage.files old) (kept_after : IsTrue storage.is_honest → IsKept storage.files new) (settled : is_halted old ≡ false → old.in_doubt ≡ []) where
   pub replied_put : (result : Result T CoreError) → OnOk result (Takes old new event) → OnErr result (IsUnchanged old new) → IfErr result (Refuses old why event) → IsInDoubt old new event result
-      → (honest → is_halted old ≡ false → CrashLeaves files moment left_at old new (event ∷ [])) → Halts failures refusals old new result
-      → (came : List Event) × GoesOnBy files moment left_at failures refusals honest old new came × RepliesPut (graph old) (facts old) why event came (put_reply result)
+      → (IsTrue storage.is_honest → is_halted old ≡ false → CrashLeaves storage.files storage.moment storage.left_at old new (event ∷ [])) → Halts storage.failures storage.refusals old new result
+      → (came : List Event) × GoesOnBy storage old new came × RepliesPut (graph old) (facts old) why event came (put_reply result)
   replied_put (Ok done) takes same refuses doubt moments halts = (
     event ∷ [],
     record {
       commits = (event ∷ []) ∷ [];
       order = refl;
-      goes_on = committed files moment left_at failures refusals honest leaves gates_rest {T = T} append held old new event why kept kept_after settled (Ok done) takes halts.settled (λ working on. moments on working) halts;
+      goes_on = committed storage leaves gates_rest {T = T} append held old new event why kept kept_after settled (Ok done) takes halts.settled (λ working on. moments on working) halts;
     },
     (refl, takes.legal),
   )
@@ -63,7 +62,7 @@ module _ {D T : Type 0} (files : D → Side → File) (moment : D → ℕ) (left
     record {
       commits = [];
       order = refl;
-      goes_on = refused files moment left_at failures refusals honest leaves gates_rest {T = T} append held old new event why kept kept_after settled error same refuses doubt (λ working on. moments on working) halts;
+      goes_on = refused storage leaves gates_rest {T = T} append held old new event why kept kept_after settled error same refuses doubt (λ working on. moments on working) halts;
     },
     refused_reply old why event error refuses,
   )

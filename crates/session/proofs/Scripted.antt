@@ -1,8 +1,6 @@
 -- What a session comes to, by what it read.
+use Rattle.disk.specs.declared.storage.Disk.{Ghosts}
 use Rattle.std.proofs.Common.{◌≡◌, ℕ, List, Option, Result, Err, inl, inr, refl, subst, sym}
-use Rattle.disk.specs.declared.side.Side.{Side}
-use Rattle.disk.specs.File.{File}
-use Rattle.disk.specs.Time.{Contents}
 use Rattle.graph.specs.Graph.{Graph}
 use Rattle.commit.specs.Core.{Core, graph}
 use Rattle.script.specs.declared.command.Command.{Command}
@@ -12,10 +10,10 @@ use Rattle.session.specs.declared.error.SessionError.{SessionError}
 use Rattle.session.specs.Answers.{Drive}
 use Rattle.session.specs.Fails.{Answers, AnswersCommands, FailsToRead, IsAllOf}
 
-module _ {D : Type 0} (files : D → Side → File) (moment : D → ℕ) (left_at : D → ℕ → Contents → Type 0) (failures refusals : D → ℕ) (honest : Type 0) (drive : Drive) (input before behind : Option (List ℕ)) (old new : Core D) (g : Graph) (is : g ≡ graph old) where
+module _ {D : Type 0} (storage : Ghosts D) (drive : Drive) (input before behind : Option (List ℕ)) (old new : Core D) (g : Graph) (is : g ≡ graph old) where
   -- the script was read, and its commands were answered
   pub answered : (result : Result Ending SessionError) (items commands : List Command) → commands ≡ items → (script : List ℕ) × IsAllOf input script × IsScript g script items
-      → AnswersCommands files moment left_at failures refusals honest drive commands before behind old new result → Answers files moment left_at failures refusals honest drive input before behind old new result
+      → AnswersCommands storage drive commands before behind old new result → Answers storage drive input before behind old new result
   answered result items commands same read answers = inr (record {
     script = read.0;
     is_all = read.1;
@@ -25,5 +23,5 @@ module _ {D : Type 0} (files : D → Side → File) (moment : D → ℕ) (left_a
   })
 
   -- it was not read, or is none
-  pub unread : (error : SessionError) → FailsToRead g input error → Answers files moment left_at failures refusals honest drive input before before old old (Err error)
+  pub unread : (error : SessionError) → FailsToRead g input error → Answers storage drive input before before old old (Err error)
   unread error fails = inl (record { error = error; told = refl; why = subst (λ (h : Graph). FailsToRead h input error) is fails; same = refl; nothing_written = refl })

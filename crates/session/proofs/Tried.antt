@@ -1,10 +1,8 @@
 -- What several puts come to that are tried as one commit.
-use Rattle.std.proofs.Common.{◌≡◌, ◌≢◌, ◌∙◌, ◌↔◌, ◌<◌, ◌≤◌, ap, refl, sym, subst, inl, ℕ, zero, suc, ℤ, Bool, true, false, List, [], ◌∷◌, length, map, take, get_or, Some, None, Result, Ok, Err, arith}
+use Rattle.disk.specs.declared.storage.Disk.{Ghosts}
+use Rattle.std.proofs.Common.{◌≡◌, ◌≢◌, ◌∙◌, ◌↔◌, ◌<◌, ◌≤◌, ap, refl, sym, subst, inl, ℕ, zero, suc, ℤ, Bool, true, false, List, [], ◌∷◌, length, map, take, get_or, Some, None, Result, Ok, Err, arith, IsTrue}
 use Rattle.std.proofs.lemmas.Bool.{false≢true}
 use Rattle.std.specs.List.{AllByRecursion}
-use Rattle.disk.specs.declared.side.Side.{Side}
-use Rattle.disk.specs.File.{File}
-use Rattle.disk.specs.Time.{Contents}
 use Rattle.terms.specs.declared.name.Addr.{Addr}
 use Rattle.terms.specs.declared.name.Inst.{Inst}
 use Rattle.terms.specs.declared.name.Tag.{Tag as Label}
@@ -71,9 +69,9 @@ idle_any : {D : Type 0} (old new : Core D) (puts : List Event) → AllByRecursio
 idle_any old new [] all taken idle = subst (λ (c : Core _). NoneRuns c) (sym taken.1) idle
 idle_any old new (put ∷ puts) all taken idle = idle_in_turn old.machine (put ∷ puts) new.machine all taken.takes idle
 
-module _ {D : Type 0} (files : D → Side → File) (moment : D → ℕ) (left_at : D → ℕ → Contents → Type 0) (failures refusals : D → ℕ) (honest : Type 0) where
+module _ {D : Type 0} (storage : Ghosts D) where
   -- after the call no instance runs, if none ran before
-  pub idle_after : (old new : Core D) (puts : List Event) (result : Result ℕ CoreError) → AllByRecursion IsPut puts → PutsAll files moment left_at failures refusals honest old new puts result → NoneRuns old → NoneRuns new
+  pub idle_after : (old new : Core D) (puts : List Event) (result : Result ℕ CoreError) → AllByRecursion IsPut puts → PutsAll storage old new puts result → NoneRuns old → NoneRuns new
   idle_after old new puts (Ok count) all it idle instance runs = idle_any old new (take it.count puts) (first_puts it.count puts all) it.tries.takes idle instance runs
   idle_after old new puts (Err error) all it idle instance runs = idle instance (sym (it.tries.unchanged.states instance) ∙ runs)
 
@@ -82,16 +80,16 @@ module _ {D : Type 0} (files : D → Side → File) (moment : D → ℕ) (left_a
   pub same_store : (core : Core D) → KeepsStore core core
   same_store core = record { graph = refl; facts = λ _. refl; environment = λ _. refl; vault = same_vault core.vault core.vault refl; in_doubt = refl; latest = refl }
 
-  pub none_came : (old new : Core D) (puts : List Event) → PutsAll files moment left_at failures refusals honest old new puts (Ok 0) → KeepsStore old new × GoesOn files moment left_at failures refusals honest old new []
+  pub none_came : (old new : Core D) (puts : List Event) → PutsAll storage old new puts (Ok 0) → KeepsStore old new × GoesOn storage old new []
   none_came old new puts it =
       let none : take it.count puts ≡ [] = ap (λ n. take n puts) (sym it.told) in
       let taken = subst (λ (commit : Commit). TakesAny old new commit) none it.tries.takes in (
         subst (λ (c : Core D). KeepsStore old c) (sym taken.1) (same_store old),
-        subst (λ (commit : Commit). GoesOn files moment left_at failures refusals honest old new (in_one commit)) none it.goes_on,
+        subst (λ (commit : Commit). GoesOn storage old new (in_one commit)) none it.goes_on,
       )
 
   -- an error that does not halt the core leaves it as it was
-  pub apart : (old new : Core D) (puts : List Event) (error : CoreError) → PutsAll files moment left_at failures refusals honest old new puts (Err error) → is_halted new ≡ false → KeepsStore old new × GoesOn files moment left_at failures refusals honest old new []
+  pub apart : (old new : Core D) (puts : List Event) (error : CoreError) → PutsAll storage old new puts (Err error) → is_halted new ≡ false → KeepsStore old new × GoesOn storage old new []
   apart old new puts error it goes = (still (is_halted old) refl, it.goes_on)
     where
       still : (b : Bool) → is_halted old ≡ b → KeepsStore old new
@@ -104,7 +102,7 @@ module _ {D : Type 0} (files : D → Side → File) (moment : D → ℕ) (left_a
   -- ---- the first ones come
 
   pub first_came : (old new : Core D) (commands : List Command) (count : ℕ) → AllByRecursion Puts commands → length commands ≤ MOST_TOGETHER → 1 ≤ count
-      → PutsAll files moment left_at failures refusals honest old new (all_of (map put_by commands)) (Ok count) → FirstCame files moment left_at failures refusals honest old new commands count
+      → PutsAll storage old new (all_of (map put_by commands)) (Ok count) → FirstCame storage old new commands count
   first_came old new commands count all few some it =
       let told : count ≡ it.count = it.told in
       let puts = all_of (map put_by commands) in
@@ -126,8 +124,8 @@ module _ {D : Type 0} (files : D → Side → File) (moment : D → ℕ) (left_a
             few = omega (arith, many, within, few);
             puts = puts_before count commands all;
             each = refl;
-            goes_on = subst (λ (commit : Commit). GoesOn files moment left_at failures refusals honest old new (commit ∷ [])) firsts
-                (subst (λ (commits : List Commit). GoesOn files moment left_at failures refusals honest old new commits) (ap in_one same ∙ in_one_of (take count puts) more) it.goes_on);
+            goes_on = subst (λ (commit : Commit). GoesOn storage old new (commit ∷ [])) firsts
+                (subst (λ (commits : List Commit). GoesOn storage old new commits) (ap in_one same ∙ in_one_of (take count puts) more) it.goes_on);
             working = taken.working;
           };
         };
@@ -142,7 +140,7 @@ module _ {D : Type 0} (files : D → Side → File) (moment : D → ℕ) (left_a
 
   -- ---- the core is halted
 
-  module _ (old new : Core D) (puts : List Event) (error : CoreError) (it : PutsAll files moment left_at failures refusals honest old new puts (Err error)) (stops : is_halted new ≡ true) where
+  module _ (old new : Core D) (puts : List Event) (error : CoreError) (it : PutsAll storage old new puts (Err error)) (stops : is_halted new ≡ true) where
     inside : {cause : CoreError} → ◌≡◌ {A = Result ℕ CoreError} (Err error) (Err cause) → error ≡ cause
     inside is = cc
 
@@ -150,7 +148,7 @@ module _ {D : Type 0} (files : D → Side → File) (moment : D → ℕ) (left_a
     not_full : error ≡ Store store.Full → ⊥
     not_full is =
         let working : is_halted old ≡ false = (subst (λ (e : CoreError). RefusesPuts old (take it.count puts) e) is it.tries.refused).0 in
-        false≢true (sym (calm {T = ℕ} failures refusals old new error it.tries.halts (λ device. apart_one (sym is ∙ device)) (λ memory. apart_two (sym is ∙ memory)) working ∙ working) ∙ stops)
+        false≢true (sym (calm {T = ℕ} storage.failures storage.refusals old new error it.tries.halts (λ device. apart_one (sym is ∙ device)) (λ memory. apart_two (sym is ∙ memory)) working ∙ working) ∙ stops)
       where
         apart_one : Store store.Full ≡ Store store.Device → ⊥
         apart_one same = cc
@@ -177,7 +175,7 @@ module _ {D : Type 0} (files : D → Side → File) (moment : D → ℕ) (left_a
     first_legal g X event rest zero some legal = absurd (omega (arith, some))
     first_legal g X event rest (suc count) some legal = legal.0
 
-    cause_of : (command : Command) → Puts command → HasCause failures old new command [] (reply_of error)
+    cause_of : (command : Command) → Puts command → HasCause storage.failures old new command [] (reply_of error)
     cause_of command is_put = record {
       halted = λ _. stops;
       halts = λ run. absurd (no_run command is_put run);
@@ -206,7 +204,7 @@ module _ {D : Type 0} (files : D → Side → File) (moment : D → ℕ) (left_a
     stays (Store store.NotAStore) is why none = absurd why
     stays (Store store.Exists) is why none = absurd why
 
-    abbrev nothing_came : GoesOnBy files moment left_at failures refusals honest old new []
+    abbrev nothing_came : GoesOnBy storage old new []
     nothing_came = record { commits = []; order = refl; goes_on = it.goes_on }
 
     legal_first : (event : Event) (rest : List Event) → puts ≡ event ∷ rest → is_halted old ≡ false → 0 < length (take it.count puts) → IsLegal (graph old) (facts old) event
@@ -235,26 +233,26 @@ module _ {D : Type 0} (files : D → Side → File) (moment : D → ℕ) (left_a
       tag_replies name rest is (Store store.NotAStore) same why = absurd why
       tag_replies name rest is (Store store.Exists) same why = absurd why
 
-    pub first_halted : (commands : List Command) → 1 ≤ length commands → AllByRecursion Puts commands → puts ≡ all_of (map put_by commands) → AnswersFirst files moment left_at failures refusals honest old new commands (reply_of error)
+    pub first_halted : (commands : List Command) → 1 ≤ length commands → AllByRecursion Puts commands → puts ≡ all_of (map put_by commands) → AnswersFirst storage old new commands (reply_of error)
     first_halted [] some all is = absurd (omega (arith, some))
     first_halted (Put address v ∷ commands) some all is =
-        at_once files moment left_at failures refusals honest old new (Put address v) (reply_of error) [] nothing_came (λ drive. item_replies drive address v (all_of (map put_by commands)) is error refl it.tries.refused)
+        at_once storage old new (Put address v) (reply_of error) [] nothing_came (λ drive. item_replies drive address v (all_of (map put_by commands)) is error refl it.tries.refused)
         (λ halted was. subst (λ (b : Bool). (reply_of error ≡ replied.Halted) ↔ (b ≡ true)) was (told_halted error it.tries.refused, halted_told)) (cause_of (Put address v) tt) (stays error refl it.tries.refused)
     first_halted (Tag name ∷ commands) some all is =
-        at_once files moment left_at failures refusals honest old new (Tag name) (reply_of error) [] nothing_came (λ drive. tag_replies drive name (all_of (map put_by commands)) is error refl it.tries.refused)
+        at_once storage old new (Tag name) (reply_of error) [] nothing_came (λ drive. tag_replies drive name (all_of (map put_by commands)) is error refl it.tries.refused)
         (λ halted was. subst (λ (b : Bool). (reply_of error ≡ replied.Halted) ↔ (b ≡ true)) was (told_halted error it.tries.refused, halted_told)) (cause_of (Tag name) tt) (stays error refl it.tries.refused)
     first_halted (Get address ∷ commands) some all is = absurd all.0
     first_halted (Run ∷ commands) some all is = absurd all.0
 
   -- the first of some commands came to its reply
-  pub first_answers : (old new : Core D) (commands : List Command) (first : Command) (reply : Reply) → 1 ≤ length commands → first ≡ get_or commands 0 first → AnswersFirst files moment left_at failures refusals honest old new commands reply
-      → AnswersAtOnce files moment left_at failures refusals honest old new first (Some reply)
+  pub first_answers : (old new : Core D) (commands : List Command) (first : Command) (reply : Reply) → 1 ≤ length commands → first ≡ get_or commands 0 first → AnswersFirst storage old new commands reply
+      → AnswersAtOnce storage old new first (Some reply)
   first_answers old new [] first reply some is answers = absurd answers
-  first_answers old new (command ∷ commands) first reply some is answers = subst (λ (c : Command). AnswersAtOnce files moment left_at failures refusals honest old new c (Some reply)) (sym is) answers
+  first_answers old new (command ∷ commands) first reply some is answers = subst (λ (c : Command). AnswersAtOnce storage old new c (Some reply)) (sym is) answers
 
   -- ---- a put alone, after others were tried
 
-  module _ (both : AmongBoth) (gates_stay : honest → GatesStay files moment left_at) (old mid new : Core D) (still : KeepsStore old mid) (nothing : GoesOn files moment left_at failures refusals honest old mid []) where
+  module _ (both : AmongBoth) (gates_stay : IsTrue storage.is_honest → GatesStay storage.files storage.moment storage.left_at) (old mid new : Core D) (still : KeepsStore old mid) (nothing : GoesOn storage old mid []) where
     halted_as : is_halted mid ≡ is_halted old
     halted_as = still.vault.halted
 
@@ -264,7 +262,7 @@ module _ {D : Type 0} (files : D → Side → File) (moment : D → ℕ) (left_a
     no_room (Get address) is commits full = absurd is
     no_room Run is commits full = absurd is
 
-    pub alone : (command : Command) (reply : Reply) → Puts command → AnswersAtOnce files moment left_at failures refusals honest mid new command (Some reply) → AnswersAtOnce files moment left_at failures refusals honest old new command (Some reply)
+    pub alone : (command : Command) (reply : Reply) → Puts command → AnswersAtOnce storage mid new command (Some reply) → AnswersAtOnce storage old new command (Some reply)
     alone command reply is answers drive was =
         let it = answers drive (was ∙ sym halted_as) in
         record {
@@ -272,13 +270,13 @@ module _ {D : Type 0} (files : D → Side → File) (moment : D → ℕ) (left_a
           goes_on = record {
             commits = it.goes_on.commits;
             order = it.goes_on.order;
-            goes_on = joined_on files moment left_at failures refusals honest both gates_stay old mid new [] it.goes_on.commits nothing it.goes_on.goes_on;
+            goes_on = joined_on storage both gates_stay old mid new [] it.goes_on.commits nothing it.goes_on.goes_on;
           };
           replies = subst (λ (g : Graph). Replies g drive (facts old) command it.came reply) still.graph (subst (λ (X : Facts). Replies (graph mid) drive X command it.came reply) (λ i fact. still.facts fact i) it.replies);
           cause = record {
             halted = it.cause.halted;
             halts = it.cause.halts;
-            device = subst (λ (d : D). (reply ≡ replied.Device) ↔ (Puts command × (failures d < failures new.vault.disk))) still.vault.disk it.cause.device;
+            device = subst (λ (d : D). (reply ≡ replied.Device) ↔ (Puts command × (storage.failures d < storage.failures new.vault.disk))) still.vault.disk it.cause.device;
             full = λ told. no_room command is it.goes_on.commits (it.cause.full told);
             left = it.cause.left;
           };
@@ -287,7 +285,7 @@ module _ {D : Type 0} (files : D → Side → File) (moment : D → ℕ) (left_a
 
     -- the first of some puts
     pub first_alone : (commands : List Command) (first : Command) (reply : Reply) → 1 ≤ length commands → AllByRecursion Puts commands → first ≡ get_or commands 0 first
-        → AnswersAtOnce files moment left_at failures refusals honest mid new first (Some reply) → AnswersFirst files moment left_at failures refusals honest old new commands reply
+        → AnswersAtOnce storage mid new first (Some reply) → AnswersFirst storage old new commands reply
     first_alone [] first reply some all is answers = absurd (omega (arith, some))
     first_alone (command ∷ commands) first reply some all is answers =
-        alone command reply all.0 (subst (λ (c : Command). AnswersAtOnce files moment left_at failures refusals honest mid new c (Some reply)) is answers)
+        alone command reply all.0 (subst (λ (c : Command). AnswersAtOnce storage mid new c (Some reply)) is answers)

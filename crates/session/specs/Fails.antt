@@ -1,9 +1,7 @@
 -- What a session comes to: what was read, what came of it, and why it did not come to its end.
+use Rattle.disk.specs.declared.storage.Disk.{Ghosts}
 use Rattle.std.specs.Prelude.{◌≡◌, ◌⊎◌, ◌<◌, ⊤, ℕ, List, [], ◌++◌, length, Option, Some, None, Result, Err, IfOk, IfErr}
 use Rattle.std.specs.Io.KnownBytes.{Appends}
-use Rattle.disk.specs.declared.side.Side.{Side}
-use Rattle.disk.specs.File.{File}
-use Rattle.disk.specs.Time.{Contents}
 use Rattle.terms.specs.declared.event.Event.{Event}
 use Rattle.terms.specs.Sets.{Facts}
 use Rattle.graph.specs.Graph.{Graph}
@@ -91,14 +89,14 @@ FailsLater g drive X commands begun replies events before behind NoMemory = (beg
 FailsLater g drive X commands begun replies events before behind Read = ⊥
 FailsLater g drive X commands begun replies events before behind (Script number fault) = ⊥
 
-module _ {D : Type 0} (files : D → Side → File) (moment : D → ℕ) (left_at : D → ℕ → Contents → Type 0) (failures refusals : D → ℕ) (honest : Type 0) (drive : Drive) where
+module _ {D : Type 0} (storage : Ghosts D) (drive : Drive) where
   -- What came of the commands of a script: which of them were begun, the replies, which events came by each line, and how the core went on by them. At
   -- `Ok` all were begun, and `whole` holds. At an error the sink failed after a prefix of them, or memory was refused for the report.
   pub record AnswersBy (whole : List Reply → List (List Event) → Ending → Type 0) (commands : List Command) (before behind : Option (List ℕ)) (old new : Core D) (result : Result Ending SessionError) : Type 0 where
     pub begun : List Command
     pub replies : List Reply
     pub events : List (List Event)
-    pub goes_on : GoesOnByAll files moment left_at failures refusals honest old new begun replies events
+    pub goes_on : GoesOnByAll storage old new begun replies events
     pub closes : IfOk result (λ ending. (begun ≡ commands) × whole replies events ending)
     pub fails : IfErr result (FailsLater (graph old) drive (facts old) commands begun replies events before behind)
 

@@ -1,10 +1,8 @@
 -- The lines of a script: what those that were answered came to, and how a session goes on from there.
+use Rattle.disk.specs.declared.storage.Disk.{Ghosts}
 use Rattle.std.specs.Prelude.{◌≡◌, ◌≢◌, ◌⊎◌, ◌≤◌, ℕ, Bool, true, false, List, [], ◌∷◌, ◌++◌, length, map, take, Option, Some, None, Result, Ok, Err}
 use Rattle.std.specs.Borrow.{GName}
 use Rattle.std.specs.Io.KnownBytes.{Appends}
-use Rattle.disk.specs.declared.side.Side.{Side}
-use Rattle.disk.specs.File.{File}
-use Rattle.disk.specs.Time.{Contents}
 use Rattle.terms.specs.declared.event.Event.{Event}
 use Rattle.terms.specs.Facts as stated
 use Rattle.terms.specs.Sets.{Facts, with_facts}
@@ -43,11 +41,11 @@ abbrev pub went_of : (failed : Bool) → Ending → Result Ending SessionError
 went_of true ending = Err Write
 went_of false ending = Ok ending
 
-module _ {D : Type 0} (files : D → Side → File) (moment : D → ℕ) (left_at : D → ℕ → Contents → Type 0) (failures refusals : D → ℕ) (honest : Type 0) where
+module _ {D : Type 0} (storage : Ghosts D) where
   -- the core went on by these lines, and may go on by more
   pub record Linked (old new : Core D) (begun : List Command) (replies : List Reply) (events : List (List Event)) : Type 0 where
-    pub follows : (last : Core D) (more : List Command) (rest : List Reply) (later : List (List Event)) → GoesOnByLine files moment left_at failures refusals honest new last more rest later
-        → GoesOnByLine files moment left_at failures refusals honest old last (begun ++ more) (replies ++ rest) (events ++ later)
+    pub follows : (last : Core D) (more : List Command) (rest : List Reply) (later : List (List Event)) → GoesOnByLine storage new last more rest later
+        → GoesOnByLine storage old last (begun ++ more) (replies ++ rest) (events ++ later)
 
   -- ---- one line
 
@@ -55,15 +53,15 @@ module _ {D : Type 0} (files : D → Side → File) (moment : D → ℕ) (left_a
   -- session, the core is not halted by it.
   pub record ComesTo (drive : Drive) (old new : Core D) (command : Command) (reply : Reply) : Type 0 where
     pub came : List Event
-    pub goes_on : GoesOnBy files moment left_at failures refusals honest old new came
+    pub goes_on : GoesOnBy storage old new came
     pub replies : Replies (graph old) drive (facts old) command came reply
-    pub cause : HasCause failures old new command goes_on.commits reply
+    pub cause : HasCause storage.failures old new command goes_on.commits reply
     pub stays : stop_of reply ≡ None → is_halted new ≡ is_halted old
 
   -- These puts came as one commit: their events were legal, one after another.
   pub record CameTogether (old new : Core D) (commands : List Command) : Type 0 where
     pub legal : AreLegalFrom (graph old) (facts old) (all_of (map put_by commands))
-    pub together : ComeTogether files moment left_at failures refusals honest old new commands (map put_by commands)
+    pub together : ComeTogether storage old new commands (map put_by commands)
 
   -- any command but a run comes to its reply, and a run is left to do
   abbrev pub AnswersAtOnce : (old new : Core D) → Command → Option Reply → Type 0
@@ -89,13 +87,13 @@ module _ {D : Type 0} (files : D → Side → File) (moment : D → ℕ) (left_a
   -- the same if they are tried as one commit: or nothing came, and nothing has changed but room in memory
   abbrev pub AnswersTogether : (old new : Core D) → List Command → Together → Type 0
   AnswersTogether old new commands (Came count) = FirstCame old new commands count
-  AnswersTogether old new commands Apart = KeepsStore old new × GoesOn files moment left_at failures refusals honest old new []
+  AnswersTogether old new commands Apart = KeepsStore old new × GoesOn storage old new []
   AnswersTogether old new commands (Halted reply) = AnswersFirst old new commands reply
 
   -- a run on one thread, or by workers, returned this
   pub record HasRunTo (most : ℕ) (may_be_asked may_spawn : Bool) (old new : Core D) (verdict : Result Verdict RunError) : Type 0 where
     pub halted : is_halted old ≡ true → (new ≡ old) × (verdict ≡ Ok came_to.Halted)
-    pub runs : is_halted old ≡ false → RunsWithin files moment left_at failures refusals honest may_be_asked may_spawn old new most verdict
+    pub runs : is_halted old ≡ false → RunsWithin storage may_be_asked may_spawn old new most verdict
 
   -- the command `run` comes to this reply, if the run returned this
   abbrev pub AnswersVerdict : (new : Core D) → Result Verdict RunError → Reply → Type 0
@@ -110,7 +108,7 @@ module _ {D : Type 0} (files : D → Side → File) (moment : D → ℕ) (left_a
     pub events : List (List Event)
     pub split : commands ≡ begun ++ left
     pub same : drive.was_halted ≡ is_halted new
-    pub goes_on : GoesOnBy files moment left_at failures refusals honest old new (all_of events)
+    pub goes_on : GoesOnBy storage old new (all_of events)
     pub linked : Linked old new begun replies events
     pub answered : Answered (graph old) drive (facts old) begun ending replies events
     pub written : Appends before behind (replies_text (graph old) replies)
@@ -121,13 +119,13 @@ module _ {D : Type 0} (files : D → Side → File) (moment : D → ℕ) (left_a
     pub record Stands (drive : Drive) (commands left : List Command) (first now : S) (old new : Core D) (ending : Ending) (failed : Bool) : Type 0 where
       pub sink : TellsSink target has_failed first now (went_of failed ending)
       pub going : failed ≡ false → ending.stop ≡ None → SoFar drive commands left (contents first) (contents now) old new ending
-      pub over : (failed ≡ true) ⊎ (ending.stop ≢ None) → AnswersLines files moment left_at failures refusals honest drive commands (contents first) (contents now) old new (went_of failed ending)
+      pub over : (failed ≡ true) ⊎ (ending.stop ≢ None) → AnswersLines storage drive commands (contents first) (contents now) old new (went_of failed ending)
 
   module _ {S : Type 0} (contents : S → Option (List ℕ)) where
     -- whatever lines came to this, with the report the session comes to that
     abbrev pub ReportFollows : (old new : S) → Core D → (went result : Result Ending SessionError) → Type 0
-    ReportFollows old new core went result = (drive : Drive) (commands : List Command) (first : S) (begun : Core D) → AnswersLines files moment left_at failures refusals honest drive commands (contents first) (contents old) begun core went
-        → AnswersCommands files moment left_at failures refusals honest drive commands (contents first) (contents new) begun core result
+    ReportFollows old new core went result = (drive : Drive) (commands : List Command) (first : S) (begun : Core D) → AnswersLines storage drive commands (contents first) (contents old) begun core went
+        → AnswersCommands storage drive commands (contents first) (contents new) begun core result
 
 module _ {S : Type 0} (target : S → GName) (has_failed : S → Bool) where
   -- whatever was written before, the sink failed in it exactly where the result says so

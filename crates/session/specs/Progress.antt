@@ -1,9 +1,7 @@
 -- How far the lines of a script are, and what its calls do with them, however a session came there.
+use Rattle.disk.specs.declared.storage.Disk.{Ghosts}
 use Rattle.std.specs.Prelude.{◌≡◌, ◌≤◌, ℕ, Bool, true, false, List, ◌∷◌, drop, Option, None, Result}
 use Rattle.std.specs.Borrow.{GName}
-use Rattle.disk.specs.declared.side.Side.{Side}
-use Rattle.disk.specs.File.{File}
-use Rattle.disk.specs.Time.{Contents}
 use Rattle.commit.specs.declared.verdict.RunError.{RunError}
 use Rattle.commit.specs.declared.verdict.Verdict.{Verdict}
 use Rattle.commit.specs.Core.{Core}
@@ -22,11 +20,11 @@ pub record IsBehind (most : ℕ) (commands left : List Command) : Type 0 where
   pub within : count ≤ most
   pub rest : left ≡ drop count commands
 
-module _ {D : Type 0} (files : D → Side → File) (moment : D → ℕ) (left_at : D → ℕ → Contents → Type 0) (failures refusals : D → ℕ) (honest : Type 0)
+module _ {D : Type 0} (storage : Ghosts D)
     {S : Type 0} (target : S → GName) (has_failed : S → Bool) (contents : S → Option (List ℕ)) where
   -- how a session stands whose lines are so far
   abbrev pub StandsAt : Drive → List Command → (first now : S) → (old new : Core D) → Progress → Type 0
-  StandsAt drive commands first now old new progress = Stands files moment left_at failures refusals honest target has_failed contents drive commands progress.left.now first now old new progress.ending progress.failed
+  StandsAt drive commands first now old new progress = Stands storage target has_failed contents drive commands progress.left.now first now old new progress.ending progress.failed
 
   -- however the session stood before, it stands so now
   abbrev pub KeepsStanding : (before after : Progress) → (here there : S) → (from new : Core D) → Type 0
@@ -35,12 +33,12 @@ module _ {D : Type 0} (files : D → Side → File) (moment : D → ℕ) (left_a
   -- it goes on, and the next line is a run
   abbrev pub IsAtRun : Drive → List Command → (first now : S) → (old new : Core D) → Progress → Type 0
   IsAtRun drive commands first now old new progress =
-      Stands files moment left_at failures refusals honest target has_failed contents drive commands (Run ∷ progress.left.now) first now old new progress.ending progress.failed × (progress.failed ≡ false) × (progress.ending.stop ≡ None)
+      Stands storage target has_failed contents drive commands (Run ∷ progress.left.now) first now old new progress.ending progress.failed × (progress.failed ≡ false) × (progress.ending.stop ≡ None)
 
   -- no line is left to answer
   abbrev pub IsOver : Drive → List Command → (first now : S) → (old new : Core D) → Progress → Type 0
   IsOver drive commands first now old new progress =
-      AnswersLines files moment left_at failures refusals honest drive commands (contents first) (contents now) old new (went_of progress.failed progress.ending) × TellsSink target has_failed first now (went_of progress.failed progress.ending)
+      AnswersLines storage drive commands (contents first) (contents now) old new (went_of progress.failed progress.ending) × TellsSink target has_failed first now (went_of progress.failed progress.ending)
 
   -- however the session came here, it comes to a run, or to its end
   abbrev pub ReachesRun : (before after : Progress) → (here there : S) → (from new : Core D) → (at_run : Bool) → Type 0
@@ -51,4 +49,4 @@ module _ {D : Type 0} (files : D → Side → File) (moment : D → ℕ) (left_a
   abbrev pub AnswersRun : (before after : Progress) → (here there : S) → Core D → Result Verdict RunError → Type 0
   AnswersRun before after here there new verdict =
       (most : ℕ) (may_be_asked may_spawn was_halted : Bool) (commands : List Command) (first : S) (old from : Core D) → IsAtRun (drive_of most may_be_asked may_spawn was_halted) commands first here old from before
-      → HasRunTo files moment left_at failures refusals honest most may_be_asked may_spawn from new verdict → StandsAt (drive_of most may_be_asked may_spawn was_halted) commands first there old new after
+      → HasRunTo storage most may_be_asked may_spawn from new verdict → StandsAt (drive_of most may_be_asked may_spawn was_halted) commands first there old new after

@@ -1,9 +1,7 @@
 -- How a core goes on by the lines of a script, and the cause of the reply to each.
+use Rattle.disk.specs.declared.storage.Disk.{Ghosts}
 use Rattle.std.specs.Prelude.{⊤, ◌≡◌, ◌≢◌, ◌⊎◌, ◌<◌, ◌≤◌, ◌↔◌, ℕ, true, false, List, [], ◌∷◌, ◌++◌, length, map}
 use Rattle.std.specs.List.{AllByRecursion}
-use Rattle.disk.specs.declared.side.Side.{Side}
-use Rattle.disk.specs.File.{File}
-use Rattle.disk.specs.Time.{Contents}
 use Rattle.terms.specs.declared.event.Event.{Event}
 use Rattle.terms.specs.declared.event.Event.TheVariants.{EnvItem, EnvTag}
 use Rattle.terms.specs.Commits.{Commit, events_of}
@@ -102,12 +100,12 @@ events_in (in_group commands events ∷ rows) = events ++ events_in rows
 
 -- ---- lines
 
-module _ {D : Type 0} (files : D → Side → File) (moment : D → ℕ) (left_at : D → ℕ → Contents → Type 0) (failures refusals : D → ℕ) (honest : Type 0) where
+module _ {D : Type 0} (storage : Ghosts D) where
   -- the core goes on by commits that have these events, in their order
   pub record GoesOnBy (old new : Core D) (events : List Event) : Type 0 where
     pub commits : List Commit
     pub order : events_of commits ≡ events
-    pub goes_on : GoesOn files moment left_at failures refusals honest old new commits
+    pub goes_on : GoesOn storage old new commits
 
   -- Several puts that were committed as one: the event of each came by its line, all of them as one commit, and the core is not halted.
   pub record ComeTogether (old new : Core D) (commands : List Command) (events : List (List Event)) : Type 0 where
@@ -115,14 +113,14 @@ module _ {D : Type 0} (files : D → Side → File) (moment : D → ℕ) (left_a
     pub few : length commands ≤ MOST_TOGETHER
     pub puts : AllByRecursion Puts commands
     pub each : events ≡ map put_by commands
-    pub goes_on : GoesOn files moment left_at failures refusals honest old new (all_of events ∷ [])
+    pub goes_on : GoesOn storage old new (all_of events ∷ [])
     pub working : (is_halted old ≡ false) × (is_halted new ≡ false)
 
   -- Row by row: from one row to the next the core goes on by the events of that row. If the row is one line, the reply has its cause; otherwise its events came as one
   -- commit.
   abbrev pub GoesOnByRow : Core D → Core D → List Row → Type 0
   GoesOnByRow old new [] = new ≡ old
-  GoesOnByRow old new (by_itself command reply came ∷ later) = (mid : Core D) × (goes : GoesOnBy old mid came) × HasCause failures old mid command goes.commits reply × GoesOnByRow mid new later
+  GoesOnByRow old new (by_itself command reply came ∷ later) = (mid : Core D) × (goes : GoesOnBy old mid came) × HasCause storage.failures old mid command goes.commits reply × GoesOnByRow mid new later
   GoesOnByRow old new (in_group commands events ∷ later) = (mid : Core D) × ComeTogether old mid commands events × GoesOnByRow mid new later
 
   -- Line by line: the lines that were answered are rows, each of one line or of several puts that were committed as one, and the core goes on row by row. So the events of a row are

@@ -30,7 +30,7 @@ use vault::{VaultError, stores_go_on};
 pub(crate) fn answer<D: Disk>(core: &mut Core<D>, command: Command) -> Option<Reply>
     requires idle { NoneRuns core.old }
     ensures idle { NoneRuns core.new }
-    ensures answers { AnswersAtOnce D.files D.moment D.left_at D.failures D.refusals (IsTrue D.is_honest) core.old core.new command result }
+    ensures answers { AnswersAtOnce D.Disk core.old core.new command result }
 {
     match command {
         Command::Run => None,
@@ -44,7 +44,7 @@ pub(crate) fn answer<D: Disk>(core: &mut Core<D>, command: Command) -> Option<Re
 fn put_item<D: Disk>(core: &mut Core<D>, address: Addr, value: i64) -> Reply
     requires idle { NoneRuns core.old }
     ensures idle { NoneRuns core.new }
-    ensures replies { (came : List Came) × (goes : GoesOnBy D.files D.moment D.left_at D.failures D.refusals (IsTrue D.is_honest) core.old core.new came)
+    ensures replies { (came : List Came) × (goes : GoesOnBy D.Disk core.old core.new came)
         × RepliesPut (graph core.old) (facts core.old) (RefusesItem (graph core.old) (facts core.old) address) (EnvItem address value) came result
         × HasCause D.failures core.old core.new (Put address value) goes.commits result }
     ensures halt { (result ≡ Halted) ↔ (is_halted core.old ≡ true) }
@@ -61,7 +61,7 @@ fn put_item<D: Disk>(core: &mut Core<D>, address: Addr, value: i64) -> Reply
 fn put_tag<D: Disk>(core: &mut Core<D>, tag: Tag) -> Reply
     requires idle { NoneRuns core.old }
     ensures idle { NoneRuns core.new }
-    ensures replies { (came : List Came) × (goes : GoesOnBy D.files D.moment D.left_at D.failures D.refusals (IsTrue D.is_honest) core.old core.new came)
+    ensures replies { (came : List Came) × (goes : GoesOnBy D.Disk core.old core.new came)
         × RepliesPut (graph core.old) (facts core.old) (RefusesTag (graph core.old) (facts core.old) tag) (EnvTag tag) came result
         × HasCause D.failures core.old core.new (Label tag) goes.commits result }
     ensures halt { (result ≡ Halted) ↔ (is_halted core.old ≡ true) }
@@ -86,7 +86,7 @@ fn put_reply(put: Result<(), CoreError>) -> Reply
 
 // Gets an item for the environment. No event comes by it.
 fn get<D: Disk>(core: &Core<D>, address: Addr) -> Reply
-    ensures goes_on { GoesOn D.files D.moment D.left_at D.failures D.refusals (IsTrue D.is_honest) core.now core.now [] }
+    ensures goes_on { GoesOn D.Disk core.now core.now [] }
     ensures replies { RepliesGet (graph core.now) (facts core.now) address [] result }
     ensures cause { HasCause D.failures core.now core.now (Get address) [] result }
     ensures halt { (result ≡ Halted) ↔ (is_halted core.now ≡ true) }
@@ -130,7 +130,7 @@ pub(crate) fn ran<D: Disk>(
     core: &Core<D>,
     verdict: Result<Verdict, RunError>,
 ) -> Reply
-    ensures { AnswersVerdict D.files D.moment D.left_at D.failures D.refusals (IsTrue D.is_honest) core.now verdict result }
+    ensures { AnswersVerdict D.Disk core.now verdict result }
 {
     stores_go_on::<D>();
     core.is_kept();

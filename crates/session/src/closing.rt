@@ -21,7 +21,7 @@ pub(crate) fn close<D: Disk, O: Sink>(
     went: Result<Ending, SessionError>,
     out: &mut O,
 ) -> Result<Ending, SessionError>
-    ensures answers { ReportFollows D.files D.moment D.left_at D.failures D.refusals (IsTrue D.is_honest) O.contents out.old out.new core.now went result }
+    ensures answers { ReportFollows D.Disk O.contents out.old out.new core.now went result }
     ensures sink { SinkFollows O.target O.has_failed out.old out.new went result }
 {
     match went {

@@ -32,7 +32,7 @@ pub(crate) fn run_script<D: Disk + Send, O: Sink, H: Threads + Wait + Sync, P: P
 ) -> (Core<D>, Result<Ending, SessionError>)
     requires idle { NoneRuns core }
     ensures idle { NoneRuns result.0 }
-    ensures answers { AnswersCommands D.files D.moment D.left_at D.failures D.refusals (IsTrue D.is_honest) (drive_of limit (may_be_asked P.may_stop driver.now) (may_spawn driver.now) (is_halted core)) commands.now (O.contents out.old) (O.contents out.new) core result.0 result.1 }
+    ensures answers { AnswersCommands D.Disk (drive_of limit (may_be_asked P.may_stop driver.now) (may_spawn driver.now) (is_halted core)) commands.now (O.contents out.old) (O.contents out.new) core result.0 result.1 }
     ensures sink { TellsSink O.target O.has_failed out.old out.new result.1 }
 {
     stores_go_on::<D>();
@@ -58,7 +58,7 @@ pub(crate) fn run_script_alone<D: Disk, O: Sink>(
 ) -> (Core<D>, Result<Ending, SessionError>)
     requires idle { NoneRuns core }
     ensures idle { NoneRuns result.0 }
-    ensures answers { AnswersCommands D.files D.moment D.left_at D.failures D.refusals (IsTrue D.is_honest) (drive_of limit false false (is_halted core)) commands.now (O.contents out.old) (O.contents out.new) core result.0 result.1 }
+    ensures answers { AnswersCommands D.Disk (drive_of limit false false (is_halted core)) commands.now (O.contents out.old) (O.contents out.new) core result.0 result.1 }
     ensures sink { TellsSink O.target O.has_failed out.old out.new result.1 }
 {
     stores_go_on::<D>();

@@ -59,7 +59,7 @@ impl<'a> Progress<'a> {
     ) -> bool
         requires idle { NoneRuns core.old }
         ensures idle { NoneRuns core.new }
-        ensures reaches { ReachesRun D.files D.moment D.left_at D.failures D.refusals (IsTrue D.is_honest) O.target O.has_failed O.contents self.old self.new out.old out.new core.old core.new result }
+        ensures reaches { ReachesRun D.Disk O.target O.has_failed O.contents self.old self.new out.old out.new core.old core.new result }
         ensures fewer { result ≡ true → length self.new.left.now < length self.old.left.now }
     {
         facts_are_told_apart();
@@ -85,7 +85,7 @@ impl<'a> Progress<'a> {
         out: &mut O,
     )
         ensures left { self.new.left.now ≡ self.old.left.now }
-        ensures answers { AnswersRun D.files D.moment D.left_at D.failures D.refusals (IsTrue D.is_honest) O.target O.has_failed O.contents self.old self.new out.old out.new core.now verdict }
+        ensures answers { AnswersRun D.Disk O.target O.has_failed O.contents self.old self.new out.old out.new core.now verdict }
     {
         facts_are_told_apart();
         stores_go_on::<D>();
@@ -108,7 +108,7 @@ impl<'a> Progress<'a> {
     fn put_row<D: Disk, O: Sink>(&mut self, alloc: Global, core: &mut Core<D>, out: &mut O)
         requires idle { NoneRuns core.old }
         ensures idle { NoneRuns core.new }
-        ensures keeps { KeepsStanding D.files D.moment D.left_at D.failures D.refusals (IsTrue D.is_honest) O.target O.has_failed O.contents self.old self.new out.old out.new core.old core.new }
+        ensures keeps { KeepsStanding D.Disk O.target O.has_failed O.contents self.old self.new out.old out.new core.old core.new }
         ensures fewer { length self.new.left.now ≤ length self.old.left.now }
     {
         let row = puts_in_front(self.left);
@@ -144,7 +144,7 @@ impl<'a> Progress<'a> {
         requires within { most ≤ length self.old.left.now }
         requires puts { AllByRecursion Puts (take most self.old.left.now) }
         ensures idle { NoneRuns core.new }
-        ensures keeps { KeepsStanding D.files D.moment D.left_at D.failures D.refusals (IsTrue D.is_honest) O.target O.has_failed O.contents self.old self.new out.old out.new core.old core.new }
+        ensures keeps { KeepsStanding D.Disk O.target O.has_failed O.contents self.old self.new out.old out.new core.old core.new }
         ensures rest { IsBehind most self.old.left.now self.new.left.now }
     {
         facts_are_told_apart();

@@ -62,7 +62,7 @@ pub(crate) fn put_some<D: Disk>(
     requires some { 1 ≤ length commands.now }
     requires few { length commands.now ≤ MOST_TOGETHER }
     ensures idle { NoneRuns core.new }
-    ensures answers { AnswersSome D.files D.moment D.left_at D.failures D.refusals (IsTrue D.is_honest) core.old core.new commands.now result }
+    ensures answers { AnswersSome D.Disk core.old core.new commands.now result }
 {
     facts_are_told_apart();
     stores_go_on::<D>();
@@ -80,7 +80,7 @@ fn put_together<D: Disk>(alloc: Global, core: &mut Core<D>, commands: &[Command]
     requires some { 1 ≤ length commands.now }
     requires few { length commands.now ≤ MOST_TOGETHER }
     ensures idle { NoneRuns core.new }
-    ensures answers { AnswersTogether D.files D.moment D.left_at D.failures D.refusals (IsTrue D.is_honest) core.old core.new commands.now result }
+    ensures answers { AnswersTogether D.Disk core.old core.new commands.now result }
 {
     stores_go_on::<D>();
     core.is_kept();
@@ -102,7 +102,7 @@ fn put_first<D: Disk>(core: &mut Core<D>, command: Command) -> Reply
     requires idle { NoneRuns core.old }
     requires puts { Puts command }
     ensures idle { NoneRuns core.new }
-    ensures answers { AnswersAtOnce D.files D.moment D.left_at D.failures D.refusals (IsTrue D.is_honest) core.old core.new command (Some result) }
+    ensures answers { AnswersAtOnce D.Disk core.old core.new command (Some result) }
 {
     match answer(core, command) {
         Some(reply) => reply,

@@ -41,7 +41,7 @@ pub fn session<D: Disk + Send, S: Source, O: Sink, H: Threads + Wait + Sync, P: 
 ) -> (Core<D>, Result<Ending, SessionError>)
     requires idle { NoneRuns core }
     ensures idle { NoneRuns result.0 }
-    ensures answers { Answers D.files D.moment D.left_at D.failures D.refusals (IsTrue D.is_honest) (drive_of limit (may_be_asked P.may_stop driver.now) (may_spawn driver.now) (is_halted core)) (S.remaining input.old) (O.contents out.old) (O.contents out.new) core result.0 result.1 }
+    ensures answers { Answers D.Disk (drive_of limit (may_be_asked P.may_stop driver.now) (may_spawn driver.now) (is_halted core)) (S.remaining input.old) (O.contents out.old) (O.contents out.new) core result.0 result.1 }
     ensures source { TellsSource S.has_failed input.old input.new result.1 }
     ensures sink { TellsSink O.target O.has_failed out.old out.new result.1 }
 {
@@ -64,7 +64,7 @@ pub fn session_alone<D: Disk, S: Source, O: Sink>(
 ) -> (Core<D>, Result<Ending, SessionError>)
     requires idle { NoneRuns core }
     ensures idle { NoneRuns result.0 }
-    ensures answers { Answers D.files D.moment D.left_at D.failures D.refusals (IsTrue D.is_honest) (drive_of limit false false (is_halted core)) (S.remaining input.old) (O.contents out.old) (O.contents out.new) core result.0 result.1 }
+    ensures answers { Answers D.Disk (drive_of limit false false (is_halted core)) (S.remaining input.old) (O.contents out.old) (O.contents out.new) core result.0 result.1 }
     ensures source { TellsSource S.has_failed input.old input.new result.1 }
     ensures sink { TellsSink O.target O.has_failed out.old out.new result.1 }
 {

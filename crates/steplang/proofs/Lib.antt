@@ -5,5 +5,4 @@ pub mod Endings
 pub mod Valued
 pub mod Leads
 pub mod Looped
-pub mod Unwound
 pub mod Values

@@ -1,75 +1,123 @@
--- The loop that was opened last, when its block came to its end.
-use Rattle.std.proofs.Common.{◌≡◌, ◌-◌, ◌+◌, ◌<◌, ℕ, suc, ℤ, pos, ◌+ℤ◌, ◌<ℤ◌, List, [], ◌∷◌, ◌++◌, length, take, get_or, slice_set, Bool, true, false, nat_lt, if◌then◌else◌, sym, ap, ◌∙◌, arith, rules}
+-- The innermost loop, when a turn of it is to begin.
+use Rattle.std.proofs.Common.{◌≡◌, ◌-◌, ◌+◌, ◌<◌, ℕ, suc, ℤ, int_lt, List, [], ◌∷◌, ◌++◌, length, take, get_or, slice_set, reverse, Bool, true, false, nat_lt, if◌then◌else◌, refl, sym, ap, ◌∙◌, arith}
 use Rattle.std.specs.Borrow.{Bor}
 use Rattle.std.specs.Prelude.{Option, Some, slice_get, unwrap_or}
-use Rattle.std.specs.Int.{int_gap}
 use Rattle.std.proofs.lemmas.Option.{slice_get_within, unwrap_or-slice_get}
-use Rattle.std.proofs.lemmas.List.{take_more, take_more_set, length-set}
+use Rattle.std.proofs.lemmas.List.{take_more, take_more_set, length-set, reverse-append}
 use Rattle.std.proofs.Math.Seq.{take-length}
-use Rattle.steptree.specs.declared.block.Block.{Block}
 use Rattle.terms.specs.declared.fault.FaultKind.TheVariants.{Budget}
 use Rattle.steptree.specs.declared.body.TheConstants.{BUDGET}
-use Rattle.steptree.specs.Run.{State, Outcome, ends, faults, followed, assigned, turns, run}
-use Rattle.steplang.specs.declared.machine.Frame.{Frame}
-use Rattle.steplang.specs.declared.machine.Frame.TheVariants.{Turns}
-use Rattle.steplang.specs.Machine.{behind, unwound}
-use Rattle.steplang.proofs.Unwound.{unwound_last, unwound_faults}
+use Rattle.steptree.specs.declared.code.Instruction.{Instruction}
+use Rattle.steptree.specs.declared.code.Instruction.TheVariants as instruction
+use Rattle.steptree.specs.declared.code.Loop.{Loop}
+use Rattle.steptree.specs.Run.{Read, State, ends, faults, counting, assigned}
+use Rattle.steptree.specs.Executed.{advanced, performed, turned, stepped, executed}
+use Rattle.steptree.specs.Compiled.{Stands}
+use Rattle.steplang.specs.declared.machine.Progress.{Progress}
+use Rattle.steplang.specs.declared.machine.Machine.{Machine}
+use Rattle.steplang.specs.Machine.{state_of, outcome_from}
+use Rattle.steplang.proofs.Counted.{onward_of, begins, within}
 
-whole : (frames : List Frame) (at : ℕ) → at < length frames → at ≡ length frames - 1 → at + 1 ≡ length frames
-whole frames at within is = omega (arith, within, is)
+whole : (loops : List Loop) (at : ℕ) → at < length loops → at ≡ length loops - 1 → at + 1 ≡ length loops
+whole loops at below is = omega (arith, below, is)
 
--- the frame at the last place comes after the others
-split_last : (frames : List Frame) (frame : Frame) (at : ℕ) → at ≡ length frames - 1 → slice_get frames at ≡ Some frame → frames ≡ take at frames ++ frame ∷ []
-split_last frames frame at is there =
-    let within = slice_get_within frames at frame there in
-    let this : get_or frames at frame ≡ frame = sym (unwrap_or-slice_get frames at frame) ∙ ap (λ (o : Option Frame). unwrap_or o frame) there in
-    sym (take-length frames) ∙ ap (λ (n : ℕ). take n frames) (sym (whole frames at within is))
-    ∙ take_more frames at frame within ∙ ap (λ (f : Frame). take at frames ++ f ∷ []) this
+-- the loop at the last place comes after the others
+split_last : (loops : List Loop) (innermost : Loop) (at : ℕ) → at ≡ length loops - 1 → slice_get loops at ≡ Some innermost → loops ≡ take at loops ++ innermost ∷ []
+split_last loops innermost at is there =
+    let below = slice_get_within loops at innermost there in
+    let this : get_or loops at innermost ≡ innermost = sym (unwrap_or-slice_get loops at innermost) ∙ ap (λ (o : Option Loop). unwrap_or o innermost) there in
+    sym (take-length loops) ∙ ap (λ (n : ℕ). take n loops) (sym (whole loops at below is))
+    ∙ take_more loops at innermost below ∙ ap (λ (l : Loop). take at loops ++ l ∷ []) this
 
--- and so does another frame that is written there
-set_last : (frames : List Frame) (frame other : Frame) (at : ℕ) → at ≡ length frames - 1 → slice_get frames at ≡ Some frame → slice_set frames at other ≡ take at frames ++ other ∷ []
-set_last frames frame other at is there =
-    let within = slice_get_within frames at frame there in
-    sym (take-length (slice_set frames at other))
-    ∙ ap (λ (n : ℕ). take n (slice_set frames at other)) (length-set frames at other ∙ sym (whole frames at within is))
-    ∙ take_more_set frames at other within
+-- and so does another loop that is written there
+set_last : (loops : List Loop) (innermost other : Loop) (at : ℕ) → at ≡ length loops - 1 → slice_get loops at ≡ Some innermost → slice_set loops at other ≡ take at loops ++ other ∷ []
+set_last loops innermost other at is there =
+    let below = slice_get_within loops at innermost there in
+    sym (take-length (slice_set loops at other))
+    ∙ ap (λ (n : ℕ). take n (slice_set loops at other)) (length-set loops at other ∙ sym (whole loops at below is))
+    ∙ take_more_set loops at other below
 
-pub left_behind : (frames : List Frame) (frame : Frame) (at : ℕ) → at ≡ length frames - 1 → slice_get frames at ≡ Some frame → (outcome : Outcome)
-    → unwound frames outcome ≡ unwound (take at frames) (behind frame outcome)
-left_behind frames frame at is there outcome =
-    ap (λ (l : List Frame). unwound l outcome) (split_last frames frame at is there) ∙ unwound_last (take at frames) frame outcome
+-- the innermost loop, and the others
+pub innermost_first : (loops : List Loop) (innermost : Loop) (at : ℕ) → at ≡ length loops - 1 → slice_get loops at ≡ Some innermost → reverse loops ≡ innermost ∷ reverse (take at loops)
+innermost_first loops innermost at is there = ap reverse (split_last loops innermost at is there) ∙ reverse-append (take at loops) (innermost ∷ [])
 
-pub written_behind : (frames : List Frame) (frame other : Frame) (at : ℕ) → at ≡ length frames - 1 → slice_get frames at ≡ Some frame → (outcome : Outcome)
-    → unwound (slice_set frames at other) outcome ≡ unwound (take at frames) (behind other outcome)
-written_behind frames frame other at is there outcome =
-    ap (λ (l : List Frame). unwound l outcome) (set_last frames frame other at is there) ∙ unwound_last (take at frames) other outcome
+pub written_first : (loops : List Loop) (innermost other : Loop) (at : ℕ) → at ≡ length loops - 1 → slice_get loops at ≡ Some innermost → reverse (slice_set loops at other) ≡ other ∷ reverse (take at loops)
+written_first loops innermost other at is there = ap reverse (set_last loops innermost other at is there) ∙ reverse-append (take at loops) (other ∷ [])
 
--- one more turn is left
-one_left : (next to : ℤ) → next <ℤ to → int_gap next to ≡ suc (int_gap (next +ℤ pos 1) to)
-one_left next to below = search rules
+pub opened_first : (loops : List Loop) (innermost : Loop) → reverse (loops ++ innermost ∷ []) ≡ innermost ∷ reverse loops
+opened_first loops innermost = reverse-append loops (innermost ∷ [])
 
-module _ (frames : List Frame) (variable : ℕ) (next to : ℤ) (block : Bor Block) (at : ℕ) (last : at ≡ length frames - 1) (there : slice_get frames at ≡ Some (Turns variable next to block)) (below : next <ℤ to) where
-  -- the state after a turn was counted
-  abbrev pub counted : State → State
-  counted state = record state { counted = suc state.counted }
+module _ (code : List Instruction) (at : ℕ) (stands : Stands code at instruction.Turn) where
+  -- no loop is open
+  pub none_open : (left : ℕ) (state : State) → executed left code [] at state ≡ ends state
+  none_open left state = begins code left [] at state ∙ ap (λ (o : Option Instruction). performed (onward_of left code) [] o state (ends state)) stands
 
-  abbrev one_turn : State → Outcome
-  one_turn state = followed (run block.now (assigned variable next (counted state))) (turns (run block.now) variable (next +ℤ pos 1) (int_gap (next +ℤ pos 1) to))
+  module _ (loops : List Loop) (innermost : Loop) (place : ℕ) (last : place ≡ length loops - 1) (there : slice_get loops place ≡ Some innermost) (left : ℕ) (state : State) where
+    turns_on : executed left code (reverse loops) at state
+        ≡ (if int_lt innermost.next innermost.to
+        then counting state (λ now. onward_of left code (advanced innermost ∷ reverse (take place loops)) innermost.begin (assigned innermost.variable innermost.next now))
+        else stepped (onward_of left code) code (reverse (take place loops)) innermost.after state)
+    turns_on =
+        ap (λ (l : List Loop). executed left code l at state) (innermost_first loops innermost place last there)
+        ∙ begins code left (innermost ∷ reverse (take place loops)) at state
+        ∙ ap (λ (o : Option Instruction). performed (onward_of left code) (innermost ∷ reverse (take place loops)) o state (stepped (onward_of left code) code (reverse (take place loops)) innermost.after state)) stands
 
-  opened : (state : State) → unwound frames (ends state) ≡ unwound (take at frames) (if nat_lt state.counted BUDGET then one_turn state else faults Budget state.reads)
-  opened state =
-      left_behind frames (Turns variable next to block) at last there (ends state)
-      ∙ ap (λ (n : ℕ). unwound (take at frames) (turns (run block.now) variable next n state)) (one_left next to below)
+    -- no turn is left: the loop is left
+    pub over : int_lt innermost.next innermost.to ≡ false → executed left code (reverse loops) at state ≡ executed left code (reverse (take place loops)) innermost.after state
+    over is =
+        turns_on
+        ∙ ap (λ (b : Bool). if b then counting state (λ now. onward_of left code (advanced innermost ∷ reverse (take place loops)) innermost.begin (assigned innermost.variable innermost.next now))
+        else stepped (onward_of left code) code (reverse (take place loops)) innermost.after state) is
+        ∙ sym (begins code left (reverse (take place loops)) innermost.after state)
 
-  -- with no budget left it ends in a fault
-  pub spent : (state : State) → nat_lt state.counted BUDGET ≡ false → unwound frames (ends state) ≡ faults Budget state.reads
-  spent state over =
-      opened state ∙ ap (λ (b : Bool). unwound (take at frames) (if b then one_turn state else faults Budget state.reads)) over
-      ∙ unwound_faults (take at frames) Budget state.reads
+    turn_counted : int_lt innermost.next innermost.to ≡ true → executed left code (reverse loops) at state
+        ≡ counting state (λ now. onward_of left code (advanced innermost ∷ reverse (take place loops)) innermost.begin (assigned innermost.variable innermost.next now))
+    turn_counted is =
+        turns_on
+        ∙ ap (λ (b : Bool). if b then counting state (λ now. onward_of left code (advanced innermost ∷ reverse (take place loops)) innermost.begin (assigned innermost.variable innermost.next now))
+        else stepped (onward_of left code) code (reverse (take place loops)) innermost.after state) is
 
-  -- else its block comes next, and after it the turns from the next value on
-  pub made : (state : State) → nat_lt state.counted BUDGET ≡ true
-      → unwound frames (ends state) ≡ unwound (slice_set frames at (Turns variable (next +ℤ pos 1) to block)) (run block.now (assigned variable next (counted state)))
-  made state on =
-      opened state ∙ ap (λ (b : Bool). unwound (take at frames) (if b then one_turn state else faults Budget state.reads)) on
-      ∙ sym (written_behind frames (Turns variable next to block) (Turns variable (next +ℤ pos 1) to block) at last there (run block.now (assigned variable next (counted state))))
+    -- with no budget left it ends in a fault
+    pub spent : int_lt innermost.next innermost.to ≡ true → nat_lt state.counted BUDGET ≡ false → executed left code (reverse loops) at state ≡ faults Budget state.reads
+    spent is none =
+        turn_counted is
+        ∙ ap (λ (b : Bool). if b then onward_of left code (advanced innermost ∷ reverse (take place loops)) innermost.begin (assigned innermost.variable innermost.next (record state { counted = suc state.counted }))
+        else faults Budget state.reads) none
+
+  -- one more turn begins
+  pub turned_on : (loops : List Loop) (innermost : Loop) (place : ℕ) → place ≡ length loops - 1 → slice_get loops place ≡ Some innermost → (state : State)
+      → int_lt innermost.next innermost.to ≡ true → nat_lt state.counted BUDGET ≡ true
+      → executed (BUDGET - state.counted) code (reverse loops) at state
+      ≡ executed (BUDGET - suc state.counted) code (reverse (slice_set loops place (advanced innermost))) innermost.begin (assigned innermost.variable innermost.next (record state { counted = suc state.counted }))
+  unfolding onward_of
+  turned_on loops innermost place last there state is some =
+      ap (λ (n : ℕ). executed n code (reverse loops) at state) (within code state.counted some)
+      ∙ turn_counted loops innermost place last there (suc (BUDGET - suc state.counted)) state is
+      ∙ ap (λ (b : Bool). if b then executed (BUDGET - suc state.counted) code (advanced innermost ∷ reverse (take place loops)) innermost.begin (assigned innermost.variable innermost.next (record state { counted = suc state.counted }))
+      else faults Budget state.reads) some
+      ∙ ap (λ (l : List Loop). executed (BUDGET - suc state.counted) code l innermost.begin (assigned innermost.variable innermost.next (record state { counted = suc state.counted })))
+      (sym (written_first loops innermost (advanced innermost) place last there))
+
+-- the machine, when a turn of its innermost loop has begun
+module _ (old new : Machine) (before : Progress) (innermost : Loop) (counted : ℕ) where
+  pub record HasTurned : Type 0 where
+    pub loops : new.loops.items ≡ slice_set old.loops.items (length old.loops.items - 1) (advanced innermost)
+    pub variables : new.variables ≡ slice_set old.variables innermost.variable innermost.next
+    pub same : (new.code ≡ old.code) × (new.puts ≡ old.puts)
+    pub one : counted ≡ suc before.counted
+
+  pub leads_on : HasTurned → Stands old.code.now before.at instruction.Turn → slice_get old.loops.items (length old.loops.items - 1) ≡ Some innermost
+      → int_lt innermost.next innermost.to ≡ true → nat_lt before.counted BUDGET ≡ true
+      → (reads : List Read) → outcome_from old before reads ≡ outcome_from new (record { at = innermost.begin; counted = counted }) reads
+  leads_on turned stands there is some reads =
+      turned_on old.code.now before.at stands old.loops.items innermost (length old.loops.items - 1) refl there (state_of old before reads) is some
+      ∙ ap (λ (n : ℕ). executed (BUDGET - n) old.code.now (reverse (slice_set old.loops.items (length old.loops.items - 1) (advanced innermost))) innermost.begin
+      (record { variables = slice_set old.variables innermost.variable innermost.next; counted = n; reads = reads; puts = old.puts.items })) (sym turned.one)
+      ∙ ap (λ (l : List Loop). executed (BUDGET - counted) old.code.now (reverse l) innermost.begin
+      (record { variables = slice_set old.variables innermost.variable innermost.next; counted = counted; reads = reads; puts = old.puts.items })) (sym turned.loops)
+      ∙ ap (λ (v : List ℤ). executed (BUDGET - counted) old.code.now (reverse new.loops.items) innermost.begin
+      (record { variables = v; counted = counted; reads = reads; puts = old.puts.items })) (sym turned.variables)
+      ∙ ap (λ (c : Bor (List Instruction)). executed (BUDGET - counted) c.now (reverse new.loops.items) innermost.begin
+      (record { variables = new.variables; counted = counted; reads = reads; puts = old.puts.items })) (sym turned.same.0)
+      ∙ ap (λ p. executed (BUDGET - counted) new.code.now (reverse new.loops.items) innermost.begin
+      (record { variables = new.variables; counted = counted; reads = reads; puts = p.items })) (sym turned.same.1)

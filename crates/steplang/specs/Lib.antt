@@ -1,3 +1,4 @@
+pub mod FaultsOf
 pub mod Leaf
 pub mod Machine
 pub mod Running

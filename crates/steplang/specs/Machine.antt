@@ -1,48 +1,58 @@
--- An instance while its body runs, seen as the outcome that is still to come.
-use Rattle.std.specs.Prelude.{◌≡◌, ℕ, ◌+◌, ◌-◌, ◌*◌, ◌<◌, ◌≤◌, ℤ, List, [], ◌∷◌, length}
-use Rattle.std.specs.Int.{int_gap}
+-- An instance while its code runs, seen as the outcome that is still to come.
+use Rattle.std.specs.Prelude.{◌≡◌, ℕ, ◌+◌, ◌-◌, ◌*◌, ◌<◌, ◌≤◌, ℤ, List, [], ◌∷◌, length, reverse}
 use Rattle.steptree.specs.declared.body.TheConstants.{BUDGET}
-use Rattle.steptree.specs.Run.{Read, State, Outcome, ends, faults, asks, assigned, followed, turns, run}
-use Rattle.steplang.specs.declared.machine.Frame.{Frame}
-use Rattle.steplang.specs.declared.machine.Frame.TheVariants.{Rest, Turns}
+use Rattle.steptree.specs.declared.code.Instruction.{Instruction}
+use Rattle.steptree.specs.declared.code.Instruction.TheVariants as instruction
+use Rattle.steptree.specs.Run.{Read, State, Outcome, ends, faults, asks, assigned}
+use Rattle.steptree.specs.Executed.{carried_out, executed}
 use Rattle.steplang.specs.declared.machine.Step.{Step}
 use Rattle.steplang.specs.declared.machine.Step.TheVariants.{On, Asked, Failed, Ended}
+use Rattle.steplang.specs.declared.machine.Progress.{Progress}
 use Rattle.steplang.specs.declared.machine.Machine.{Machine}
 
--- what follows a block with this outcome, by the frame around it
-abbrev pub behind : Frame → Outcome → Outcome
-behind (Rest block) outcome = followed outcome (run block.now)
-behind (Turns variable next to block) outcome = followed outcome (turns (run block.now) variable next (int_gap next to))
-
--- what follows all blocks that are open; the innermost is the last of the list
-abbrev pub unwound : List Frame → Outcome → Outcome
-unwound [] outcome = outcome
-unwound (frame ∷ frames) outcome = behind frame (unwound frames outcome)
-
 -- the state of the instance, if these reads are still to come
-abbrev pub state_of : Machine → List Read → State
-state_of machine reads = record { variables = machine.variables; counted = machine.counted; reads = reads; puts = machine.puts.items }
+abbrev pub state_of : Machine → Progress → List Read → State
+state_of machine progress reads = record { variables = machine.variables; counted = progress.counted; reads = reads; puts = machine.puts.items }
+
+-- what comes of a state at its place; the innermost loop is the last of its list
+abbrev pub outcome_of_state : Machine → Progress → State → Outcome
+outcome_of_state machine progress state = executed (BUDGET - progress.counted) machine.code.now (reverse machine.loops.items) progress.at state
 
 -- its outcome along these reads
-abbrev pub outcome_from : Machine → List Read → Outcome
-outcome_from machine reads = unwound machine.frames.items (run machine.block.now (state_of machine reads))
+abbrev pub outcome_from : Machine → Progress → List Read → Outcome
+outcome_from machine progress reads = outcome_of_state machine progress (state_of machine progress reads)
+
+-- what comes of an instruction that was counted
+abbrev pub outcome_after : Instruction → Machine → Progress → List Read → Outcome
+outcome_after one machine progress reads = carried_out (executed (BUDGET - progress.counted) machine.code.now) (reverse machine.loops.items) one (state_of machine progress reads)
 
 -- for any reads, the outcome `from` that was to come before a step is the outcome that comes after it
-abbrev pub LeadsFrom : (List Read → Outcome) → Step → Machine → Type 0
-LeadsFrom from On new = (reads : List Read) → from reads ≡ outcome_from new reads
-LeadsFrom from (Asked variable) new = (from [] ≡ asks new.asked)
-    × ((value : ℤ) (reads : List Read) → from ((new.asked, value) ∷ reads) ≡ unwound new.frames.items (run new.block.now (assigned variable value (state_of new reads))))
-LeadsFrom from (Failed kind) new = (reads : List Read) → from reads ≡ faults kind reads
-LeadsFrom from Ended new = (reads : List Read) → from reads ≡ ends (state_of new reads)
+abbrev pub LeadsFrom : (List Read → Outcome) → Step → Machine → Progress → Type 0
+LeadsFrom from On new progress = (reads : List Read) → from reads ≡ outcome_from new progress reads
+LeadsFrom from (Asked variable) new progress = (from [] ≡ asks new.asked)
+    × ((value : ℤ) (reads : List Read) → from ((new.asked, value) ∷ reads) ≡ outcome_of_state new progress (assigned variable value (state_of new progress reads)))
+LeadsFrom from (Failed kind) new progress = (reads : List Read) → from reads ≡ faults kind reads
+LeadsFrom from Ended new progress = (reads : List Read) → from reads ≡ ends (state_of new progress reads)
 
--- an upper bound on the statements and ends of blocks that are left: each statement counts one, and opens at most one block
-abbrev pub left_of : Machine → ℕ
-left_of machine = 2 * (BUDGET - machine.counted) + length machine.frames.items
+-- an upper bound on the steps that are left: each statement counts one, and opens at most one loop
+abbrev pub left_of : Machine → Progress → ℕ
+left_of machine progress = 2 * (BUDGET - progress.counted) + length machine.loops.items
 
--- if there is a next statement, the bound is lower than before
-abbrev pub Falls : Machine → Step → Machine → Type 0
-Falls old step new = step ≡ On → left_of new < left_of old
+-- if there is a next step, the bound is lower than before
+abbrev pub Falls : Machine → Progress → Step → Machine → Progress → Type 0
+Falls old before step new after = step ≡ On → left_of new after < left_of old before
 
--- if there is a next statement, the bound is at most one higher than before: at most one more block is open
-abbrev pub OpensOne : Machine → Step → Machine → Type 0
-OpensOne old step new = step ≡ On → left_of new ≤ left_of old + 1
+-- if there is a next step, the bound is at most one higher than before: at most one more loop is open
+abbrev pub OpensOne : Machine → Progress → Step → Machine → Progress → Type 0
+OpensOne old before step new after = step ≡ On → left_of new after ≤ left_of old before + 1
+
+-- an instruction that inner loops seldom have
+abbrev pub IsRare : Instruction → Type 0
+IsRare instruction.Turn = ⊥
+IsRare (instruction.Assign variable value next) = ⊥
+IsRare (instruction.Branch condition first second) = ⊥
+IsRare instruction.End = Unit {0}
+IsRare (instruction.For variable from to turn begin after) = Unit {0}
+IsRare (instruction.Get variable collection components next) = Unit {0}
+IsRare (instruction.PutItem collection components value next) = Unit {0}
+IsRare (instruction.PutTag collection components next) = Unit {0}

@@ -24,6 +24,17 @@ pub record Running : Type 0 where
   pub reads : List Read
   pub awaits : Awaits
 
+-- a run that asks for an item: its step, its instance, what it has read, and the item
+pub record Asking : Type 0 where
+  pub checked : Bor Checked
+  pub instance : Inst
+  pub reads : List Read
+  pub address : Addr
+
+-- the run of it
+abbrev pub resumed : Asking → Running
+resumed asking = record { checked = asking.checked; instance = asking.instance; reads = asking.reads; awaits = ValueOf asking.address }
+
 -- the item that is asked for
 abbrev pub pending_of : Awaits → Option Addr
 pending_of (ValueOf address) = Some address

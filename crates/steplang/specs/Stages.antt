@@ -2,23 +2,23 @@
 use Rattle.std.specs.Prelude.{◌≡◌, ℕ, ℤ, List, ◌∷◌, ◌++◌}
 use Rattle.terms.specs.declared.name.Addr.{Addr}
 use Rattle.steptree.specs.declared.body.Body.{Body}
-use Rattle.steptree.specs.Run.{Read, asks, assigned, run}
+use Rattle.steptree.specs.Run.{Read, asks, assigned}
 use Rattle.steptree.specs.Bodies.{outcome_of}
 use Rattle.steplang.specs.declared.machine.Machine.{Machine}
 use Rattle.steplang.specs.declared.run.Stage.{Stage}
 use Rattle.steplang.specs.declared.run.Stage.TheVariants.{Ready, Waits, Over, Refused}
-use Rattle.steplang.specs.Machine.{state_of, unwound, outcome_from}
+use Rattle.steplang.specs.Machine.{state_of, outcome_of_state, outcome_from}
 use Rattle.steplang.specs.Running as running
 use Rattle.steplang.specs.Running.{Awaits}
 
 -- if it is ready: along any further reads the body and the machine have the same outcome
 abbrev pub IsReady : Stage → Body → List ℤ → List Read → Machine → Type 0
-IsReady stage body key reads machine = stage ≡ Ready → (more : List Read) → outcome_of body key (reads ++ more) ≡ outcome_from machine more
+IsReady stage body key reads machine = stage ≡ Ready → (more : List Read) → outcome_of body key (reads ++ more) ≡ outcome_from machine machine.progress more
 
 -- while it waits for an item: along its reads the body asks for that item, and with its value body and machine have the same outcome
 abbrev pub IsWaiting : Stage → Body → List ℤ → List Read → Machine → Type 0
 IsWaiting stage body key reads machine = (address : Addr) (variable : ℕ) → stage ≡ Waits address variable → (outcome_of body key reads ≡ asks address)
-    × ((value : ℤ) (more : List Read) → outcome_of body key (reads ++ (address, value) ∷ more) ≡ unwound machine.frames.items (run machine.block.now (assigned variable value (state_of machine more))))
+    × ((value : ℤ) (more : List Read) → outcome_of body key (reads ++ (address, value) ∷ more) ≡ outcome_of_state machine machine.progress (assigned variable value (state_of machine machine.progress more)))
 
 -- what a run waits for at this stage
 abbrev pub awaits_of : Stage → Awaits

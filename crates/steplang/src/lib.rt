@@ -4,10 +4,12 @@
 
 mod machine;
 mod outcome;
+mod parked;
 mod run;
 mod value;
 
-pub use outcome::{Bad, Given, Parked, Reads, Turn};
+pub use outcome::{Bad, Given, Reads, Turn};
+pub use parked::Parked;
 pub use run::Run;
 pub use steptree::{
     Block, Body, CheckError, CheckFault, Checked, Components, Declared, Expression, Name,

@@ -1,38 +1,24 @@
-ghost use Rattle.std.specs.Prelude.{◌≡◌, ◌≢◌, ◌-◌, ◌<ℤ◌, length, slice_get, Some, List, ℤ, pos, suc, nat_lt, if◌then◌else◌, IfOk, OnOk};
+ghost use Rattle.std.specs.Prelude.{◌≡◌, ◌≢◌, ◌-◌, ◌<ℤ◌, length, slice_get, slice_set, Some, Ok, List, suc, nat_lt, if◌then◌else◌, IfOk, MatchOption, None, [], reverse};
+ghost use Rattle.std.specs.Prelude.{pos};
 ghost use Rattle.std.specs.Ordering.{int_eq};
-ghost use Rattle.std.specs.Int.{int_gap};
 ghost use Rattle.steptree.specs.declared.body.TheConstants.{BUDGET};
-ghost use Rattle.terms.specs.declared.put.Put.TheVariants as put;
-ghost use Rattle.steptree.specs.Run.{Read, ends, assigned, counting, given, followed, answered, putting, turns, run};
-ghost use Rattle.steptree.specs.Values.{value_of, values_of};
+ghost use Rattle.steptree.specs.declared.code.Instruction.TheVariants as instruction;
+ghost use Rattle.steptree.specs.Run.{Read, assigned, putting};
 ghost use Rattle.steptree.specs.Bodies.{outcome_of};
-ghost use Rattle.steplang.specs.declared.machine.Frame.TheVariants.{Turns};
+ghost use Rattle.steptree.specs.Compiled.{Stands};
+ghost use Rattle.steptree.specs.Executed.{advanced, executed};
 ghost use Rattle.steplang.specs.declared.machine.Step.TheVariants.{On};
-ghost use Rattle.steplang.specs.Machine.{state_of, unwound, outcome_from, LeadsFrom, Falls, OpensOne};
+ghost use Rattle.steplang.specs.Machine.{state_of, outcome_of_state, outcome_from, outcome_after, LeadsFrom, Falls, OpensOne, IsRare};
 
-use crate::value::{Variables, evaluate, evaluate_key, variables_of};
+use crate::value::{Variables, evaluate, evaluate_expression, evaluate_key, variables_of};
 use std::alloc::{AllocError, Global};
-use steptree::{BUDGET, Block, Body, Components, Expression, Slot, Statement};
+use steptree::{BUDGET, Checked, Components, Expression, Formula, Instruction, Loop, Slot};
 use terms::{Addr, FaultKind, ItemCollection, Key, MOST_PUTS, Put, Tag, TagCollection};
 
-/// What is still to be done after a block.
-#[derive(Clone, Copy)]
-pub(crate) enum Frame<'a> {
-    /// The statements after it.
-    Rest(&'a Block),
-    /// The turns of a loop that are left, from `next` up to but not including `to`.
-    Turns {
-        variable: Slot,
-        next: i64,
-        to: i64,
-        block: &'a Block,
-    },
-}
-
-/// The result of a statement. It is small, since each statement returns one.
+/// The result of a step. It is small, since each statement returns one.
 #[derive(Clone, Copy)]
 pub(crate) enum Step {
-    /// There is a next statement.
+    /// There is a next step.
     On,
     /// The machine asks for its item `asked`, whose value is for this variable.
     Asked(Slot),
@@ -42,61 +28,32 @@ pub(crate) enum Step {
     Ended,
 }
 
-/// An instance while its body runs.
-#[derive(Drop)]
-pub(crate) struct Machine<'a> {
-    pub(crate) variables: Variables,
-    pub(crate) counted: u32,
-    pub(crate) puts: Vec<Put>,
-    pub(crate) frames: Vec<Frame<'a>>,
-    pub(crate) block: &'a Block,
-    /// The item that was asked for last. It means nothing before the first.
-    pub(crate) asked: Addr,
+// The second place if the value is 0, else the first.
+#[inline(always)]
+fn chosen(value: i64, first: usize, second: usize) -> usize
+    ensures { result ≡ (if int_eq value (pos 0) then second else first) }
+{
+    if value == 0 { second } else { first }
 }
 
-impl<'a> Machine<'a> {
-    #[tactic(auto, using(crate::proofs::Unwound::unwound_last))]
-    /// An instance with this key before the first statement of its body.
-    pub(crate) fn start(alloc: Global, body: &'a Body, key: Key) -> Result<Self, AllocError>
-        ensures { IfOk result (λ machine. (reads : List Read) → outcome_of body.now key reads ≡ outcome_from machine reads) }
-    {
-        let mut frames = Vec::new(alloc);
-        frames.reserve(1)?;
-        frames.push_reserved(Frame::Rest(&body.write));
-        Ok(Machine {
-            variables: variables_of(key),
-            counted: 0,
-            puts: Vec::new(alloc),
-            frames,
-            block: &body.read,
-            asked: Addr {
-                collection: ItemCollection(0),
-                key,
-            },
-        })
-    }
+// The instruction at a place, if there is one.
+#[inline(always)]
+fn instruction_at(code: &[Instruction], at: usize) -> Option<&Instruction>
+    ensures { MatchOption result (slice_get code.now at ≡ None) (λ one. Stands code.now at one.now) }
+{
+    code.get(at)
+}
 
-    /// Gives the variable that waits for an item its value.
-    pub(crate) fn answer(&mut self, variable: Slot, value: i64)
-        ensures { (reads : List Read) → outcome_from self.new reads ≡ unwound self.old.frames.items (run self.old.block.now (assigned variable value (state_of self.old reads))) }
-    {
-        self.variables[variable.place()] = value;
-    }
+/// The place of the next instruction, and how many statements and turns were counted.
+#[derive(Clone, Copy)]
+pub(crate) struct Progress {
+    pub(crate) at: usize,
+    pub(crate) counted: u32,
+}
 
-    /// Runs until it asks for an item, or to the end.
-    pub(crate) fn go(&mut self) -> Result<Step, AllocError>
-        ensures leads { IfOk result (λ step. LeadsFrom (outcome_from self.old) step self.new) }
-        ensures stops { IfOk result (λ step. step ≢ On) }
-    {
-        loop {
-            match self.step()? {
-                Step::On => {}
-                stopped => return Ok(stopped),
-            }
-        }
-    }
-
+impl Progress {
     // Counts one more statement or turn, or returns `false` if the budget is used up.
+    #[inline(always)]
     fn count(&mut self) -> bool
         ensures counted { result ≡ nat_lt self.old.counted BUDGET }
         ensures one { self.new ≡ record self.old { counted = if result then suc self.old.counted else self.old.counted } }
@@ -107,207 +64,203 @@ impl<'a> Machine<'a> {
         self.counted += 1;
         true
     }
+}
 
-    // Gives a variable the value of an expression.
-    #[tactic(auto, using(crate::proofs::Unwound::unwound_faults))]
-    fn assign(&mut self, variable: Slot, value: &Expression, rest: &'a Block) -> Step
-        ensures leads { LeadsFrom (λ reads. unwound self.old.frames.items (given (value_of value.now self.old.variables) (state_of self.old reads) (λ v. run rest.now (assigned variable v (state_of self.old reads))))) result self.new }
-        ensures opens { OpensOne self.old result self.new }
+/// An instance while its code runs.
+#[derive(Drop)]
+pub(crate) struct Machine<'a> {
+    pub(crate) code: &'a [Instruction],
+    /// How far it was when it stopped last.
+    pub(crate) progress: Progress,
+    pub(crate) variables: Variables,
+    /// The loops that are open, the innermost last.
+    pub(crate) loops: Vec<Loop>,
+    pub(crate) puts: Vec<Put>,
+    /// The item that was asked for last. It means nothing before the first.
+    pub(crate) asked: Addr,
+}
+
+impl<'a> Machine<'a> {
+    /// An instance with this key before the first statement of its body.
+    pub(crate) fn start(alloc: Global, checked: &'a Checked, key: Key) -> Self
+        ensures { (reads : List Read) → outcome_of checked.entry.now.body key reads ≡ outcome_from result result.progress reads }
     {
-        match evaluate(value, &self.variables) {
-            Ok(value) => {
-                self.variables[variable.place()] = value;
-                self.block = rest;
-                Step::On
-            }
-            Err(kind) => Step::Failed(kind),
+        Machine {
+            code: &checked.code.instructions,
+            progress: Progress {
+                at: checked.code.start,
+                counted: 0,
+            },
+            variables: variables_of(key),
+            loops: Vec::new(alloc),
+            puts: Vec::new(alloc),
+            asked: Addr {
+                collection: ItemCollection(0),
+                key,
+            },
         }
     }
 
-    // Runs one of two blocks, by a condition.
-    #[tactic(auto, using(crate::proofs::Unwound::unwound_faults))]
-    fn choose(
-        &mut self,
-        condition: &Expression,
-        first: &'a Block,
-        second: &'a Block,
-        rest: &'a Block,
-    ) -> Result<Step, AllocError>
-        ensures leads { IfOk result (λ step. LeadsFrom (λ reads. unwound self.old.frames.items (given (value_of condition.now self.old.variables) (state_of self.old reads) (λ v.
-            followed (if int_eq v (pos 0) then run second.now (state_of self.old reads) else run first.now (state_of self.old reads)) (run rest.now)))) step self.new) }
-        ensures opens { IfOk result (λ step. OpensOne self.old step self.new) }
+    /// Gives the variable that waits for an item its value.
+    pub(crate) fn answer(&mut self, variable: Slot, value: i64)
+        ensures { (reads : List Read) → outcome_from self.new self.new.progress reads ≡ outcome_of_state self.old self.old.progress (assigned variable value (state_of self.old self.old.progress reads)) }
     {
-        match evaluate(condition, &self.variables) {
-            Ok(value) => {
-                if value == 0 {
-                    return self.enter(second, rest);
-                }
-                self.enter(first, rest)
-            }
-            Err(kind) => Ok(Step::Failed(kind)),
-        }
-    }
-
-    // Goes on with a block, and then with the statements after it. It keeps no place where one of the two has no statement.
-    #[inline(always)]
-    #[tactic(auto, using(crate::proofs::Unwound::unwound_last))]
-    fn enter(&mut self, block: &'a Block, rest: &'a Block) -> Result<Step, AllocError>
-        ensures leads { IfOk result (λ step. LeadsFrom (λ reads. unwound self.old.frames.items (followed (run block.now (state_of self.old reads)) (run rest.now))) step self.new) }
-        ensures opens { IfOk result (λ step. OpensOne self.old step self.new) }
-    {
-        if let Statement::End = &block.first {
-            self.block = rest;
-            return Ok(Step::On);
-        }
-        if let Statement::End = &rest.first {
-            self.block = block;
-            return Ok(Step::On);
-        }
-        self.frames.reserve(1)?;
-        self.frames.push_reserved(Frame::Rest(rest));
-        self.block = block;
-        Ok(Step::On)
-    }
-
-    // Makes a turn of a loop with this value, which is below the end of the loop.
-    #[tactic(auto, using(crate::proofs::Unwound::unwound_faults, crate::proofs::Unwound::unwound_last))]
-    fn turn(
-        &mut self,
-        variable: Slot,
-        value: i64,
-        to: i64,
-        block: &'a Block,
-    ) -> Result<Step, AllocError>
-        requires { value <ℤ to }
-        ensures leads { IfOk result (λ step. LeadsFrom (λ reads. unwound self.old.frames.items (turns (run block.now) variable value (int_gap value to) (state_of self.old reads))) step self.new) }
-        ensures falls { IfOk result (λ step. Falls self.old step self.new) }
-    {
-        if !self.count() {
-            return Ok(Step::Failed(FaultKind::Budget));
-        }
         self.variables[variable.place()] = value;
-        let next = value + 1;
-        self.frames.reserve(1)?;
-        self.frames.push_reserved(Frame::Turns {
-            variable,
-            next,
-            to,
-            block,
-        });
-        self.block = block;
-        Ok(Step::On)
     }
 
-    // Begins a loop: both bounds are evaluated once.
-    #[tactic(auto, using(crate::proofs::Unwound::unwound_faults, crate::proofs::Unwound::unwound_last))]
-    fn repeat(
+    /// Runs until it asks for an item, or to the end. The kinds of instructions that inner loops have are carried out here.
+    #[inline(never)]
+    pub(crate) fn go(&mut self) -> Result<Step, AllocError>
+        ensures leads { IfOk result (λ step. LeadsFrom (outcome_from self.old self.old.progress) step self.new self.new.progress) }
+        ensures stops { IfOk result (λ step. step ≢ On) }
+    {
+        let code = self.code;
+        let mut progress = self.progress;
+        'steps: loop {
+            let Some(one) = instruction_at(code, progress.at) else {
+                return self.stop(progress, Step::Ended);
+            };
+            match one {
+                Instruction::Turn => {
+                    let Some(innermost) = self.innermost() else {
+                        return self.stop(progress, Step::Ended);
+                    };
+                    if innermost.next >= innermost.to {
+                        self.loops.pop();
+                        progress.at = innermost.after;
+                        continue 'steps;
+                    }
+                    if !progress.count() {
+                        return self.stop(progress, Step::Failed(FaultKind::Budget));
+                    }
+                    progress.at = innermost.begin;
+                    self.turn(innermost);
+                }
+                Instruction::Assign {
+                    variable,
+                    value,
+                    next,
+                } => {
+                    if !progress.count() {
+                        return self.stop(progress, Step::Failed(FaultKind::Budget));
+                    }
+                    match evaluate(value, &self.variables) {
+                        Ok(value) => {
+                            self.variables[variable.place()] = value;
+                            progress.at = *next;
+                        }
+                        Err(kind) => return self.stop(progress, Step::Failed(kind)),
+                    }
+                }
+                Instruction::Branch {
+                    condition,
+                    first,
+                    second,
+                } => {
+                    if !progress.count() {
+                        return self.stop(progress, Step::Failed(FaultKind::Budget));
+                    }
+                    match evaluate(condition, &self.variables) {
+                        Ok(value) => progress.at = chosen(value, *first, *second),
+                        Err(kind) => return self.stop(progress, Step::Failed(kind)),
+                    }
+                }
+                _ => {
+                    // It has a place of its own in memory, so that the kinds above need none.
+                    let mut slow = progress;
+                    match self.step(&mut slow, one)? {
+                        Step::On => progress = slow,
+                        stopped => return self.stop(slow, stopped),
+                    }
+                }
+            }
+        }
+    }
+
+    // Stops here.
+    #[inline(always)]
+    fn stop(&mut self, progress: Progress, step: Step) -> Result<Step, AllocError>
+        ensures { (result ≡ Ok step) × (self.new ≡ record self.old { progress = progress }) }
+    {
+        self.progress = progress;
+        Ok(step)
+    }
+
+    // Opens a loop: both bounds are evaluated once.
+    #[inline(always)]
+    fn open(
         &mut self,
+        progress: &mut Progress,
         variable: Slot,
         from: &Expression,
         to: &Expression,
-        block: &'a Block,
-        rest: &'a Block,
+        turn: usize,
+        begin: usize,
+        after: usize,
     ) -> Result<Step, AllocError>
-        ensures leads { IfOk result (λ step. LeadsFrom (λ reads. unwound self.old.frames.items (given (value_of from.now self.old.variables) (state_of self.old reads) (λ a. given (value_of to.now self.old.variables) (state_of self.old reads) (λ b.
-            followed (turns (run block.now) variable a (int_gap a b) (state_of self.old reads)) (run rest.now))))) step self.new) }
-        ensures opens { IfOk result (λ step. OpensOne self.old step self.new) }
+        ensures leads { IfOk result (λ step. LeadsFrom (outcome_after (instruction.For variable from.now to.now turn begin after) self.old progress.old) step self.new progress.new) }
+        ensures opens { IfOk result (λ step. OpensOne self.old progress.old step self.new progress.new) }
+        ensures same { self.new.code ≡ self.old.code }
     {
-        let from = match evaluate(from, &self.variables) {
+        let from = match evaluate_expression(from, &self.variables) {
             Ok(from) => from,
             Err(kind) => return Ok(Step::Failed(kind)),
         };
-        let to = match evaluate(to, &self.variables) {
+        let to = match evaluate_expression(to, &self.variables) {
             Ok(to) => to,
             Err(kind) => return Ok(Step::Failed(kind)),
         };
-        self.open(variable, from, to, block, rest)
-    }
-
-    // Makes the first turn of a loop, if there is one.
-    #[tactic(auto, using(crate::proofs::Unwound::unwound_last))]
-    fn open(
-        &mut self,
-        variable: Slot,
-        from: i64,
-        to: i64,
-        block: &'a Block,
-        rest: &'a Block,
-    ) -> Result<Step, AllocError>
-        ensures leads { IfOk result (λ step. LeadsFrom (λ reads. unwound self.old.frames.items (followed (turns (run block.now) variable from (int_gap from to) (state_of self.old reads)) (run rest.now))) step self.new) }
-        ensures opens { IfOk result (λ step. OpensOne self.old step self.new) }
-    {
-        if from >= to {
-            self.block = rest;
-            return Ok(Step::On);
-        }
-        self.frames.reserve(1)?;
-        self.frames.push_reserved(Frame::Rest(rest));
-        self.turn(variable, from, to, block)
-    }
-
-    // Makes one more turn of the loop that was opened last. It overwrites the loop's frame, which needs no memory.
-    fn again(&mut self, variable: Slot, next: i64, to: i64, block: &'a Block) -> Step
-        requires left { next <ℤ to }
-        requires last { slice_get self.old.frames.items (length self.old.frames.items - 1) ≡ Some (Turns variable next to block) }
-        ensures leads { LeadsFrom (λ reads. unwound self.old.frames.items (ends (state_of self.old reads))) result self.new }
-        ensures falls { Falls self.old result self.new }
-    {
-        if !self.count() {
-            return Step::Failed(FaultKind::Budget);
-        }
-        self.variables[variable.place()] = next;
-        let last = self.frames.len() - 1;
-        self.frames[last] = Frame::Turns {
+        self.loops.reserve(1)?;
+        self.loops.push_reserved(Loop {
             variable,
-            next: next + 1,
+            next: from,
             to,
-            block,
-        };
-        self.block = block;
-        Step::On
+            begin,
+            after,
+        });
+        progress.at = turn;
+        Ok(Step::On)
     }
 
-    // Leaves a block that came to its end, and goes on with what follows it.
-    #[tactic(auto, using(crate::proofs::Unwound::unwound_last))]
-    fn leave(&mut self) -> Step
-        ensures leads { LeadsFrom (λ reads. unwound self.old.frames.items (ends (state_of self.old reads))) result self.new }
-        ensures falls { Falls self.old result self.new }
+    // The innermost loop that is open.
+    #[inline(always)]
+    fn innermost(&self) -> Option<Loop>
+        ensures { MatchOption result (self.now.loops.items ≡ []) (λ innermost. slice_get self.now.loops.items (length self.now.loops.items - 1) ≡ Some innermost) }
     {
-        while let Some(frame) = self.frames.last() {
-            if let Frame::Turns {
-                variable,
-                next,
-                to,
-                block,
-            } = *frame
-                && next < to
-            {
-                return self.again(variable, next, to, block);
-            }
-            if let Some(Frame::Rest(block)) = self.frames.pop() {
-                self.block = block;
-                return Step::On;
-            }
-        }
-        Step::Ended
+        self.loops.last().copied()
+    }
+
+    // Begins a turn of the innermost loop, which was counted.
+    #[inline(always)]
+    fn turn(&mut self, innermost: Loop)
+        requires left { innermost.next <ℤ innermost.to }
+        requires last { slice_get self.old.loops.items (length self.old.loops.items - 1) ≡ Some innermost }
+        ensures loops { self.new.loops.items ≡ slice_set self.old.loops.items (length self.old.loops.items - 1) (advanced innermost) }
+        ensures variables { self.new.variables ≡ slice_set self.old.variables innermost.variable innermost.next }
+        ensures same { (self.new.code ≡ self.old.code) × (self.new.puts ≡ self.old.puts) }
+    {
+        let last = self.loops.len() - 1;
+        self.loops[last].next = innermost.next + 1;
+        self.variables[innermost.variable.place()] = innermost.next;
     }
 
     // Asks for an item, whose value is for a variable.
-    #[tactic(auto, using(crate::proofs::Unwound::unwound_faults, crate::proofs::Unwound::unwound_asks, crate::proofs::Answered::answers))]
+    #[tactic(auto, using(crate::proofs::Answered::answers))]
     fn get(
         &mut self,
+        progress: &mut Progress,
         variable: Slot,
         collection: ItemCollection,
         components: &Components,
-        rest: &'a Block,
+        next: usize,
     ) -> Step
-        ensures leads { LeadsFrom (λ reads. unwound self.old.frames.items (given (values_of components.now self.old.variables) (state_of self.old reads) (λ key.
-            answered (record { collection = collection; key = key }) reads (λ v left. run rest.now (assigned variable v (state_of self.old left)))))) result self.new }
-        ensures opens { OpensOne self.old result self.new }
+        ensures leads { LeadsFrom (outcome_after (instruction.Get variable collection components.now next) self.old progress.old) result self.new progress.new }
+        ensures opens { OpensOne self.old progress.old result self.new progress.new }
+        ensures same { self.new.code ≡ self.old.code }
     {
         match evaluate_key(components, &self.variables) {
             Ok(key) => {
-                self.block = rest;
+                progress.at = next;
                 self.asked = Addr { collection, key };
                 Step::Asked(variable)
             }
@@ -316,110 +269,121 @@ impl<'a> Machine<'a> {
     }
 
     // Puts an item.
-    #[tactic(auto, using(crate::proofs::Unwound::unwound_faults))]
     fn put_item(
         &mut self,
+        progress: &mut Progress,
         collection: ItemCollection,
         components: &Components,
         value: &Expression,
-        rest: &'a Block,
+        next: usize,
     ) -> Result<Step, AllocError>
-        ensures leads { IfOk result (λ step. LeadsFrom (λ reads. unwound self.old.frames.items (given (values_of components.now self.old.variables) (state_of self.old reads) (λ key. given (value_of value.now self.old.variables) (state_of self.old reads) (λ v.
-            putting (put.Item (record { collection = collection; key = key }) v) (state_of self.old reads) (run rest.now))))) step self.new) }
-        ensures opens { IfOk result (λ step. OpensOne self.old step self.new) }
+        ensures leads { IfOk result (λ step. LeadsFrom (outcome_after (instruction.PutItem collection components.now value.now next) self.old progress.old) step self.new progress.new) }
+        ensures opens { IfOk result (λ step. OpensOne self.old progress.old step self.new progress.new) }
+        ensures same { self.new.code ≡ self.old.code }
     {
         let key = match evaluate_key(components, &self.variables) {
             Ok(key) => key,
             Err(kind) => return Ok(Step::Failed(kind)),
         };
-        let value = match evaluate(value, &self.variables) {
+        let value = match evaluate_expression(value, &self.variables) {
             Ok(value) => value,
             Err(kind) => return Ok(Step::Failed(kind)),
         };
-        self.put(Put::Item(Addr { collection, key }, value), rest)
+        self.put(progress, Put::Item(Addr { collection, key }, value), next)
     }
 
     // Puts a tag.
-    #[tactic(auto, using(crate::proofs::Unwound::unwound_faults))]
     fn put_tag(
         &mut self,
+        progress: &mut Progress,
         collection: TagCollection,
         components: &Components,
-        rest: &'a Block,
+        next: usize,
     ) -> Result<Step, AllocError>
-        ensures leads { IfOk result (λ step. LeadsFrom (λ reads. unwound self.old.frames.items (given (values_of components.now self.old.variables) (state_of self.old reads) (λ key.
-            putting (put.Tag (record { collection = collection; key = key })) (state_of self.old reads) (run rest.now)))) step self.new) }
-        ensures opens { IfOk result (λ step. OpensOne self.old step self.new) }
+        ensures leads { IfOk result (λ step. LeadsFrom (outcome_after (instruction.PutTag collection components.now next) self.old progress.old) step self.new progress.new) }
+        ensures opens { IfOk result (λ step. OpensOne self.old progress.old step self.new progress.new) }
+        ensures same { self.new.code ≡ self.old.code }
     {
         match evaluate_key(components, &self.variables) {
-            Ok(key) => self.put(Put::Tag(Tag { collection, key }), rest),
+            Ok(key) => self.put(progress, Put::Tag(Tag { collection, key }), next),
             Err(kind) => Ok(Step::Failed(kind)),
         }
     }
 
     // Makes one more put, if the limit allows it.
-    #[tactic(auto, using(crate::proofs::Unwound::unwound_faults))]
-    fn put(&mut self, put: Put, rest: &'a Block) -> Result<Step, AllocError>
-        ensures leads { IfOk result (λ step. LeadsFrom (λ reads. unwound self.old.frames.items (putting put (state_of self.old reads) (run rest.now))) step self.new) }
-        ensures opens { IfOk result (λ step. OpensOne self.old step self.new) }
+    fn put(&mut self, progress: &mut Progress, put: Put, next: usize) -> Result<Step, AllocError>
+        ensures leads { IfOk result (λ step. LeadsFrom (λ reads. putting put (state_of self.old progress.old reads) (executed (BUDGET - progress.old.counted) self.old.code.now (reverse self.old.loops.items) next)) step self.new progress.new) }
+        ensures opens { IfOk result (λ step. OpensOne self.old progress.old step self.new progress.new) }
+        ensures same { self.new.code ≡ self.old.code }
     {
         if self.puts.len() >= MOST_PUTS {
             return Ok(Step::Failed(FaultKind::TooManyPuts));
         }
         self.puts.push(put)?;
-        self.block = rest;
+        progress.at = next;
         Ok(Step::On)
     }
 
-    /// Runs the next statement, or goes on after a block that came to its end.
-    pub(crate) fn step(&mut self) -> Result<Step, AllocError>
-        ensures leads { IfOk result (λ step. LeadsFrom (outcome_from self.old) step self.new) }
-        ensures falls { IfOk result (λ step. Falls self.old step self.new) }
+    // Carries out an instruction that `go` does not carry out itself.
+    #[cold]
+    #[inline(never)]
+    fn step(&mut self, progress: &mut Progress, one: &Instruction) -> Result<Step, AllocError>
+        requires stands { Stands self.old.code.now progress.old.at one.now }
+        requires rare { IsRare one.now }
+        ensures leads { IfOk result (λ step. LeadsFrom (outcome_from self.old progress.old) step self.new progress.new) }
+        ensures falls { IfOk result (λ step. Falls self.old progress.old step self.new progress.new) }
+        ensures same { self.new.code ≡ self.old.code }
     {
-        let block = self.block;
-        if let Statement::End = &block.first {
-            return Ok(self.leave());
-        }
-        if !self.count() {
-            return Ok(Step::Failed(FaultKind::Budget));
-        }
-        match &block.first {
-            Statement::End => Ok(self.leave()),
-            Statement::Assign {
-                variable,
-                value,
-                rest,
-            } => Ok(self.assign(*variable, value, rest)),
-            Statement::If {
-                condition,
-                first,
-                second,
-                rest,
-            } => self.choose(condition, first, second, rest),
-            Statement::For {
+        match one {
+            Instruction::End => Ok(Step::Ended),
+            Instruction::Turn => unreachable!(),
+            Instruction::Assign { .. } => unreachable!(),
+            Instruction::Branch { .. } => unreachable!(),
+            Instruction::For {
                 variable,
                 from,
                 to,
-                block,
-                rest,
-            } => self.repeat(*variable, from, to, block, rest),
-            Statement::Get {
+                turn,
+                begin,
+                after,
+            } => {
+                if !progress.count() {
+                    return Ok(Step::Failed(FaultKind::Budget));
+                }
+                self.open(progress, *variable, from, to, *turn, *begin, *after)
+            }
+            Instruction::Get {
                 variable,
                 collection,
                 components,
-                rest,
-            } => Ok(self.get(*variable, *collection, components, rest)),
-            Statement::PutItem {
+                next,
+            } => {
+                if !progress.count() {
+                    return Ok(Step::Failed(FaultKind::Budget));
+                }
+                Ok(self.get(progress, *variable, *collection, components, *next))
+            }
+            Instruction::PutItem {
                 collection,
                 components,
                 value,
-                rest,
-            } => self.put_item(*collection, components, value, rest),
-            Statement::PutTag {
+                next,
+            } => {
+                if !progress.count() {
+                    return Ok(Step::Failed(FaultKind::Budget));
+                }
+                self.put_item(progress, *collection, components, value, *next)
+            }
+            Instruction::PutTag {
                 collection,
                 components,
-                rest,
-            } => self.put_tag(*collection, components, rest),
+                next,
+            } => {
+                if !progress.count() {
+                    return Ok(Step::Failed(FaultKind::Budget));
+                }
+                self.put_tag(progress, *collection, components, *next)
+            }
         }
     }
 }

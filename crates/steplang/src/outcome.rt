@@ -1,7 +1,7 @@
 ghost use Rattle.std.specs.Prelude.{◌≡◌, ◌≢◌, ◌≤◌, length};
 ghost use Rattle.terms.specs.declared.fault.FaultKind.TheVariants.{DoublePut};
 ghost use Rattle.terms.specs.declared.put.TheConstants.{MOST_PUTS};
-ghost use Rattle.steptree.specs.Bodies.{Along, Gives, Faults, Asks};
+ghost use Rattle.steptree.specs.Bodies.{Along, Gives, Faults};
 
 use std::marker::Model;
 use steptree::{Checked, ends_within_limits};
@@ -87,16 +87,6 @@ impl<'a> Bad<'a> {
         ends_within_limits();
         self.kind
     }
-}
-
-/// An instance whose body asks for an item. `along` is the proof that it ends so along its reads, in order.
-#[derive(Drop)]
-pub struct Parked<'a> {
-    pub checked: &'a Checked,
-    pub instance: Inst,
-    pub reads: Reads,
-    pub address: Addr,
-    pub ghost along: { Along checked.now.body instance.key reads (Asks address) },
 }
 
 /// The result of one call of `advance`.

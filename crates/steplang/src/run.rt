@@ -1,7 +1,7 @@
 ghost use Rattle.steplang.specs.Stages.{IsReady, IsWaiting};
 
 use crate::machine::{Machine, Step};
-use crate::outcome::{Bad, Given, Parked, Reads, Turn};
+use crate::outcome::{Bad, Given, Reads, Turn};
 use std::alloc::{AllocError, Global};
 use std::marker::Model;
 use std::mem;
@@ -50,9 +50,10 @@ impl<'a> Model for Run<'a> {
 }
 
 impl<'a> Run<'a> {
-    ghost use Rattle.std.specs.Prelude.{◌≡◌, [], length, IfOk, OnOk, OnErr, IsErr, IsSome};
-    ghost use Rattle.steplang.specs.Running.{Nothing, ValueOf, Refused, IsDue, pending_of, answered};
+    ghost use Rattle.std.specs.Prelude.{◌≡◌, [], length, IfOk, IfSome, OnOk, OnErr, IsErr};
+    ghost use Rattle.steplang.specs.Running.{Nothing, Refused, IsDue, pending_of, answered};
     ghost use Rattle.steplang.specs.Turns.{Tells};
+    ghost use Rattle.steptree.specs.Bodies.{Along, Asks};
 
     /// A run of this step for an instance, whose key has as many components as the step has parameters.
     pub fn start(alloc: Global, checked: &'a Checked, instance: Inst) -> Result<Run<'a>, AllocError>
@@ -63,7 +64,7 @@ impl<'a> Run<'a> {
             alloc,
             checked,
             instance,
-            machine: Machine::start(alloc, &checked.body, instance.key)?,
+            machine: Machine::start(alloc, checked, instance.key),
             reads: Vec::new(alloc),
             stage: Stage::Ready,
         })
@@ -156,24 +157,33 @@ impl<'a> Run<'a> {
         }
     }
 
-    /// How many statements and turns of loops it has made so far. No clause says it: it is for whoever shares out the work.
-    pub fn statements(&self) -> u32 {
-        self.machine.counted
+    // The item that is asked for, along what it has read.
+    pub(crate) fn asked(&self) -> Option<Addr>
+        ensures asked { result ≡ pending_of self.now.awaits }
+        ensures along { IfSome result (λ address. Along self.now.checked.now.body self.now.instance.key self.now.reads (Asks address)) }
+    {
+        match self.stage {
+            Stage::Waits(address, _) => Some(address),
+            _ => None,
+        }
     }
 
-    /// Turns a run that asks for an item into a `Parked` instance.
-    pub fn park(self) -> Parked<'a>
-        requires { IsSome (pending_of self.awaits) }
-        ensures parked { self.entry ≡ record { checked = result.checked; instance = result.instance; reads = result.reads; awaits = ValueOf result.address } }
+    /// How many statements and turns of loops it has made so far. No clause says it: it is for whoever shares out the work.
+    pub fn statements(&self) -> u32 {
+        self.machine.progress.counted
+    }
+
+    /// The instance.
+    pub fn instance(&self) -> Inst
+        ensures { result ≡ self.now.instance }
     {
-        let Stage::Waits(address, _) = self.stage else {
-            unreachable!()
-        };
-        Parked {
-            checked: self.checked,
-            instance: self.instance,
-            reads: Reads::new(self.reads),
-            address,
-        }
+        self.instance
+    }
+
+    /// The items that it has read, in order, each an address and its value.
+    pub fn reads(&self) -> &[(Addr, i64)]
+        ensures { result.now ≡ self.now.reads }
+    {
+        &self.reads
     }
 }

@@ -1,10 +1,12 @@
 ghost use Rattle.std.specs.Prelude.{◌≡◌, ◌-◌, ◌++◌, pos, replicate, Ok, Err, List, ℤ, length, IfSome, IfNone, IfOk, OnOk};
-ghost use Rattle.steptree.specs.declared.expression.Operator.TheVariants.{Divide, Remainder};
-ghost use Rattle.steptree.specs.Values.{held, operated, value_of, values_of};
-ghost use Rattle.steplang.specs.Leaf.{IsDeep};
+ghost use Rattle.steptree.specs.declared.expression.Operator.TheVariants.{Add, Subtract, Divide, Remainder};
+ghost use Rattle.steptree.specs.Values.{operated, value_of, values_of};
+ghost use Rattle.steptree.specs.Executed.{operand_of, pair_of, expression_of};
+ghost use Rattle.steplang.specs.Leaf.{IsDeep, IsLong};
+ghost use Rattle.steplang.specs.FaultsOf.{fault_of};
 ghost use Rattle.steptree.specs.declared.slot.TheConstants.{MOST_NAMES};
 
-use steptree::{Components, Expression, MOST_NAMES, Node, Operator};
+use steptree::{Components, Expression, Formula, MOST_NAMES, Node, Operand, Operator, Pair};
 use terms::{FaultKind, Key, MAX_COMPONENTS};
 
 /// The values of an instance's variables, by slot.
@@ -18,6 +20,91 @@ pub(crate) fn variables_of(key: Key) -> Variables
     let components = key.components();
     variables[..components.len()].copy_from_slice(components);
     variables
+}
+
+/// Evaluates a formula, its operands from the left.
+#[inline(always)]
+pub(crate) fn evaluate(formula: &Formula, variables: &Variables) -> Result<i64, FaultKind>
+    ensures { result ≡ value_of (expression_of formula.now) variables.now }
+{
+    match formula {
+        Formula::Leaf(leaf) => Ok(operand(leaf, variables)),
+        Formula::Sum(left, right) => add(variables[left.place()], variables[right.place()]),
+        Formula::SumWith(left, right) => add(variables[left.place()], *right),
+        Formula::Variables(operator, left, right) => operate(
+            *operator,
+            variables[left.place()],
+            variables[right.place()],
+        ),
+        Formula::WithNumber(operator, left, right) => {
+            operate(*operator, variables[left.place()], *right)
+        }
+        Formula::Two(pair) => evaluate_pair(pair, variables),
+        Formula::First(operator, left, right) => {
+            let left = evaluate_pair(left, variables)?;
+            operate(*operator, left, operand(right, variables))
+        }
+        Formula::Second(operator, left, right) => {
+            let left = operand(left, variables);
+            let right = evaluate_pair(right, variables)?;
+            operate(*operator, left, right)
+        }
+        Formula::Both(operator, left, right) => {
+            let left = evaluate_pair(left, variables)?;
+            let right = evaluate_pair(right, variables)?;
+            operate(*operator, left, right)
+        }
+        Formula::FirstThen(..) | Formula::SecondThen(..) | Formula::Deep(_) => {
+            let value = evaluate_long(formula, variables)?;
+            Ok(value)
+        }
+    }
+}
+
+// Evaluates a formula of more than two operations in a row. It is a call, so that the shorter ones have room; and it
+// counts as cold, so that registers are saved around this call alone.
+#[cold]
+#[inline(never)]
+fn evaluate_long(formula: &Formula, variables: &Variables) -> Result<i64, FaultKind>
+    requires { IsLong formula.now }
+    ensures { result ≡ value_of (expression_of formula.now) variables.now }
+{
+    match formula {
+        Formula::FirstThen(operator, inner, left, right, last) => {
+            let left = evaluate_pair(left, variables)?;
+            let left = operate(*inner, left, operand(right, variables))?;
+            operate(*operator, left, operand(last, variables))
+        }
+        Formula::SecondThen(operator, inner, left, right, last) => {
+            let left = operand(left, variables);
+            let right = evaluate_pair(right, variables)?;
+            let left = operate(*inner, left, right)?;
+            operate(*operator, left, operand(last, variables))
+        }
+        Formula::Deep(expression) => evaluate_expression(expression, variables),
+        _ => unreachable!(),
+    }
+}
+
+// Evaluates an operation on two operands.
+#[inline(always)]
+fn evaluate_pair(pair: &Pair, variables: &Variables) -> Result<i64, FaultKind>
+    ensures { result ≡ value_of (pair_of pair.now) variables.now }
+{
+    let left = operand(&pair.left, variables);
+    let right = operand(&pair.right, variables);
+    operate(pair.operator, left, right)
+}
+
+// The value of an operand.
+#[inline(always)]
+fn operand(operand: &Operand, variables: &Variables) -> i64
+    ensures { value_of (operand_of operand.now) variables.now ≡ Ok result }
+{
+    match operand {
+        Operand::Number(number) => *number,
+        Operand::Variable(slot) => variables[slot.place()],
+    }
 }
 
 // The value of a number or a variable.
@@ -51,8 +138,10 @@ fn shallow(expression: &Expression, variables: &Variables) -> Option<Result<i64,
 }
 
 /// Evaluates an expression, its operands from the left.
-#[inline(always)]
-pub(crate) fn evaluate(expression: &Expression, variables: &Variables) -> Result<i64, FaultKind>
+pub(crate) fn evaluate_expression(
+    expression: &Expression,
+    variables: &Variables,
+) -> Result<i64, FaultKind>
     ensures { result ≡ value_of expression.now variables.now }
 {
     // An operation needs a call only for an operand that is not shallow.
@@ -104,7 +193,7 @@ pub(crate) fn evaluate_key(components: &Components, variables: &Variables) -> Re
     let expressions = components.as_slice();
     let mut values = [0; MAX_COMPONENTS];
     for (index, expression) in expressions.iter().enumerate() {
-        values[index] = evaluate(expression, variables)?;
+        values[index] = evaluate_expression(expression, variables)?;
     }
     Ok(Key::new(&values[..expressions.len()]))
 }
@@ -115,9 +204,9 @@ fn operate(operator: Operator, left: i64, right: i64) -> Result<i64, FaultKind>
     ensures { result ≡ operated operator left right }
 {
     match operator {
-        Operator::Add => left.checked_add(right).ok_or(FaultKind::Overflow),
-        Operator::Subtract => left.checked_sub(right).ok_or(FaultKind::Overflow),
-        Operator::Multiply => left.checked_mul(right).ok_or(FaultKind::Overflow),
+        Operator::Add => add(left, right),
+        Operator::Subtract => subtract(left, right),
+        Operator::Multiply => held(left.checked_mul(right), operator, right),
         Operator::Divide => divide(left, right),
         Operator::Remainder => remainder(left, right),
         Operator::Equal => Ok(i64::from(left == right)),
@@ -129,14 +218,68 @@ fn operate(operator: Operator, left: i64, right: i64) -> Result<i64, FaultKind>
     }
 }
 
+// The result of an operation, if there is one.
+#[inline(always)]
+fn held(value: Option<i64>, operator: Operator, right: i64) -> Result<i64, FaultKind>
+    ensures some { IfSome value (λ v. result ≡ Ok v) }
+    ensures none { IfNone value (result ≡ Err (fault_of operator right)) }
+{
+    match value {
+        Some(value) => Ok(value),
+        None => Err(fault(operator, right)),
+    }
+}
+
+// Why an operation has no result.
+#[cold]
+#[inline(never)]
+fn fault(operator: Operator, right: i64) -> FaultKind
+    ensures { result ≡ fault_of operator right }
+{
+    match operator {
+        Operator::Divide => fault_of_division(right),
+        Operator::Remainder => fault_of_division(right),
+        _ => FaultKind::Overflow,
+    }
+}
+
+// Why a division has no result.
+fn fault_of_division(right: i64) -> FaultKind
+    ensures { result ≡ fault_of Divide right }
+{
+    if right == 0 {
+        return FaultKind::DivisionByZero;
+    }
+    FaultKind::Overflow
+}
+
+// The sum. In each branch the sign of the right operand is known, so that one comparison tells whether the sum fits.
+#[inline(always)]
+fn add(left: i64, right: i64) -> Result<i64, FaultKind>
+    ensures { result ≡ operated Add left right }
+{
+    if right < 0 {
+        return held(left.checked_add(right), Operator::Add, right);
+    }
+    held(left.checked_add(right), Operator::Add, right)
+}
+
+// The difference, in branches as the sum.
+#[inline(always)]
+fn subtract(left: i64, right: i64) -> Result<i64, FaultKind>
+    ensures { result ≡ operated Subtract left right }
+{
+    if right < 0 {
+        return held(left.checked_sub(right), Operator::Subtract, right);
+    }
+    held(left.checked_sub(right), Operator::Subtract, right)
+}
+
 // The quotient, rounded toward zero.
 fn divide(left: i64, right: i64) -> Result<i64, FaultKind>
     ensures { result ≡ operated Divide left right }
 {
-    if right == 0 {
-        return Err(FaultKind::DivisionByZero);
-    }
-    left.checked_div(right).ok_or(FaultKind::Overflow)
+    held(left.checked_div(right), Operator::Divide, right)
 }
 
 // The remainder, with the sign of the dividend.
@@ -144,7 +287,7 @@ fn remainder(left: i64, right: i64) -> Result<i64, FaultKind>
     ensures { result ≡ operated Remainder left right }
 {
     if right == 0 {
-        return Err(FaultKind::DivisionByZero);
+        return Err(fault(Operator::Remainder, right));
     }
     Ok(left.wrapping_rem(right))
 }

@@ -1,4 +1,6 @@
+mod Coded
 mod FirstFaults
+mod Follows
 mod Joining
 mod Kept
 mod Lists

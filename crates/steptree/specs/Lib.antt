@@ -2,6 +2,8 @@ pub mod Bodies
 pub mod CheckFaults
 pub mod CodesOfBlocks
 pub mod CodesOfExpressions
+pub mod Compiled
+pub mod Executed
 pub mod Laws
 pub mod Limits
 pub mod Nameable

@@ -1,4 +1,9 @@
-use crate::Body;
+ghost use Rattle.std.specs.Prelude.{◌≡◌, IfOk};
+ghost use Rattle.steptree.specs.Executed.{Performs};
+
+use crate::compiler::compile;
+use crate::{Body, Code};
+use std::alloc::{AllocError, Global};
 
 /// A step whose names are resolved: its variables are slots, and its collections are numbers.
 pub struct Checked {
@@ -8,6 +13,31 @@ pub struct Checked {
     pub parameters: usize,
     /// What it reads, and then what it puts.
     pub body: Body,
+    /// The body as instructions.
+    pub code: Code,
+    pub ghost performs: { Performs code body },
+}
+
+impl Checked {
+    /// A step with this body, whose code is made here.
+    pub fn new(
+        alloc: Global,
+        names: Vec<String>,
+        parameters: usize,
+        body: Body,
+    ) -> Result<Self, AllocError>
+        ensures names { IfOk result (λ checked. checked.names ≡ names) }
+        ensures parameters { IfOk result (λ checked. checked.parameters ≡ parameters) }
+        ensures body { IfOk result (λ checked. checked.body ≡ body) }
+    {
+        let code = compile(alloc, &body)?;
+        Ok(Checked {
+            names,
+            parameters,
+            body,
+            code,
+        })
+    }
 }
 
 impl Drop for Checked {
@@ -17,6 +47,7 @@ impl Drop for Checked {
             names: _,
             parameters: _,
             body: _,
+            code: _,
         } = self;
     }
 }

@@ -78,9 +78,7 @@ pub fn check(alloc: Global, step: &Step<'_>, sheet: &Sheet<'_>) -> Result<Checke
     let names = all_names(alloc, step)?;
     let read = resolve_block(alloc, &names, sheet, &step.read)?;
     let write = resolve_block(alloc, &names, sheet, &step.write)?;
-    Ok(Checked {
-        names: owned_texts(alloc, &names)?,
-        parameters: step.parameters.len(),
-        body: Body { read, write },
-    })
+    let names = owned_texts(alloc, &names)?;
+    let checked = Checked::new(alloc, names, step.parameters.len(), Body { read, write })?;
+    Ok(checked)
 }

@@ -8,6 +8,8 @@ mod block;
 mod body;
 mod checked;
 mod checker;
+mod code;
+mod compiler;
 mod components;
 mod expression;
 mod laws;
@@ -19,6 +21,7 @@ pub use block::{Block, Statement};
 pub use body::{BUDGET, Body};
 pub use checked::Checked;
 pub use checker::{CheckError, CheckFault, check};
+pub use code::{Code, Formula, Instruction, Loop, Operand, Pair};
 pub use components::Components;
 pub use expression::{Expression, Node, Operator};
 pub use laws::{

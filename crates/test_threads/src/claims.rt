@@ -55,7 +55,7 @@ fn busy_until_it_waits<J: Naming, D: Disk, R: Handles>(
     };
     let busy = hub.busy(rt, worker);
     match hub.run(rt, rt.alloc(), worker, &task, None) {
-        Ok(Ran::Waits(run, _)) => spent(rt, hub.park(rt, worker, task, run.park()))?,
+        Ok(Ran::Waits(run, _)) => spent(rt, hub.park(rt, worker, task, &run.park()))?,
         Ok(Ran::Ended(_, _)) => {
             release(rt, hub, worker, task)?;
             bail!("it ended")

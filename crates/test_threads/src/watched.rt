@@ -170,7 +170,7 @@ fn run<J: Naming, D: Disk, R: Handles>(
 {
     match hub.run(rt, rt.alloc(), pass, &task, None) {
         Ok(Ran::Ended(outcome, _)) => settled(rt, hub.finish(rt, pass, task, outcome)),
-        Ok(Ran::Waits(run, _)) => settled(rt, hub.park(rt, pass, task, run.park())),
+        Ok(Ran::Waits(run, _)) => settled(rt, hub.park(rt, pass, task, &run.park())),
         Err(error) => {
             settled(rt, hub.release(rt, pass, task))?;
             Err(error)

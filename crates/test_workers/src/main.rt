@@ -15,7 +15,13 @@ use std::io::Print;
 const COUNTS: [u8; 4] = [1, 2, 8, 64];
 
 fn main(rt: HostRuntime) -> Result<(), Error> {
-    for row in [Row::Complete, Row::Blocked, Row::Overflow, Row::PutTwice] {
+    for row in [
+        Row::Complete,
+        Row::Blocked,
+        Row::Overflow,
+        Row::PutTwice,
+        Row::Waiting,
+    ] {
         rt.println(row.title())?;
         for workers in COUNTS {
             try_row(&rt, &rt, row, workers)?;

@@ -1,7 +1,7 @@
 //! Runs whose verdict and facts are the same with any number of workers.
 ghost use Rattle.std.specs.Prelude.{◌≤◌};
 
-use crate::stores::{fibonacci, idle, put_tags, tell, tell_within};
+use crate::stores::{fibonacci, idle, put_tags, sums, tell, tell_within};
 use anyhow::Error;
 use pool::{AlwaysGo, drive};
 use std::io::Print;
@@ -19,6 +19,8 @@ pub(crate) enum Row {
     Overflow,
     /// A number that the environment put already.
     PutTwice,
+    /// Three sums, each of twenty numbers that steps put one after another.
+    Waiting,
 }
 
 // A limit that no row meets.
@@ -32,6 +34,7 @@ impl Row {
             Row::Blocked => "a number of which one before is wanting",
             Row::Overflow => "all numbers that fit, and then one more",
             Row::PutTwice => "a number that is there already",
+            Row::Waiting => "three sums that wait for one number after another",
         }
     }
 }
@@ -72,6 +75,12 @@ pub(crate) fn try_row<R: Threads + Wait + Sync>(
             let core = fibonacci(alloc, &[0, 1, 7], 2..3)?;
             let (core, verdict) = drive(threads, alloc, core, workers, LIMIT, &AlwaysGo);
             tell(rt, workers, core, verdict, 5)
+        }
+        Row::Waiting => {
+            let core = sums(alloc, 3)?;
+            let (core, verdict) = drive(threads, alloc, core, workers, LIMIT, &AlwaysGo);
+            // A new store with the item and the tags, of 498 + 25 + 23 * 17 bytes; and the ends, as above: each with a record of its own, or all as one group.
+            tell_within(rt, workers, core, verdict, 4, 1750, 1857)
         }
     }
 }

@@ -16,6 +16,12 @@ const FIBONACCI: &str =
     "[fib: i]; <n: i>; <n> :: (add); [fib] -> (add); (add) -> [fib]; env -> [fib]; env -> <n>; [fib] -> env;
 step add(i) { var a, b; read { get a = [fib: i - 1]; get b = [fib: i - 2]; } write { put [fib: i] = a + b; } }";
 
+// A chain of numbers, each one greater than the one before, and sums of the first twenty of them.
+const SUMS: &str =
+    "[link: i]; [sum: k]; <n: i>; <s: k>; <n> :: (next); <s> :: (add); [link] -> (next); (next) -> [link]; [link] -> (add); (add) -> [sum]; env -> [link]; env -> <n>; env -> <s>; [sum] -> env;
+step next(i) { var a; read { get a = [link: i - 1]; } write { put [link: i] = a + 1; } }
+step add(k) { var a, i, sum; read { for i in 1 .. 21 { get a = [link: i]; sum = sum + a; } } write { put [sum: k] = sum + k; } }";
+
 /// A new store of a graph.
 pub(crate) fn created(alloc: Global, graph: &str) -> Result<Core<MemDisk>, Error> {
     match Core::create(alloc, MemDisk::new(alloc), graph.as_bytes()) {
@@ -35,6 +41,19 @@ pub(crate) fn fibonacci(
     let mut core = created(alloc, FIBONACCI)?;
     put_numbers(&mut core, numbers)?;
     put_tags(&mut core, tags)?;
+    idle(core)
+}
+
+/// A new store with this number of sums, whose tags come before those of the chain.
+pub(crate) fn sums(alloc: Global, count: i64) -> Result<Core<MemDisk>, Error>
+    ensures { IfOk result NoneRuns }
+{
+    let mut core = created(alloc, SUMS)?;
+    put_numbers(&mut core, &[0])?;
+    for key in 0..count {
+        went(core.put_tag(sum(key)))?;
+    }
+    put_tags(&mut core, 1..21)?;
     idle(core)
 }
 
@@ -86,6 +105,14 @@ pub(crate) fn fib(key: i64) -> Addr {
 pub(crate) fn number(key: i64) -> Tag {
     Tag {
         collection: TagCollection(0),
+        key: Key::new(&[key]),
+    }
+}
+
+// `<s: key>`
+fn sum(key: i64) -> Tag {
+    Tag {
+        collection: TagCollection(1),
         key: Key::new(&[key]),
     }
 }

@@ -38,5 +38,5 @@ returns-in-Ended-Fault-clause-fault c =
 pub returns-clause-fault : goal.returns-clause-fault
 returns-clause-fault c =
     let came = rw c.in-Waits.is at c.in_ok-given.ensures in
-    let needs = body_needs c.results_are_meant.ensures.needs c.args.made.now.graph (facts c.args.made.now) c.args.inst c.in-Waits.parked came.0 came.1 in
+    let needs = body_needs c.results_are_meant.ensures.needs c.args.made.now.graph (facts c.args.made.now) c.args.inst c.in-Waits.parked came.0 came.1 c.address.ensures.along in
     (λ no. absurd (false≢true no), λ at. absurd (waits_for c.facts_are_told_apart.ensures.one c.facts_are_told_apart.ensures.among c.ends_once.ensures.one c.args.made.now.graph (environment c.args.made.now) (facts c.args.made.now) c.requires.reached c.args.inst c.in-Waits.parked.address c.args.kind needs at))

@@ -1,4 +1,4 @@
-use Rattle.std.proofs.Common.{Bool, inl, inr, refl, subst, IsTrue}
+use Rattle.std.proofs.Common.{Bool, inl, inr, refl, subst}
 use Rattle.pool.specs.Driver.{may_be_asked, may_spawn}
 use Rattle.session.specs.Answers.{drive_of}
 use Rattle.session.specs.Fails.{Answers}
@@ -10,7 +10,7 @@ returns-in-Ok g c = inr (record {
   last = c.run_session-core.result.0;
   opened = record { opened = c.in-Ok.ensures.opened; finds = λ on. c.in-Ok.ensures.finds on; only_reads = λ on. c.in-Ok.ensures.only_reads on };
   answer = c.run_session-core.result.1;
-  session = subst (λ (was_halted : Bool). Answers g.D.Disk.files g.D.Disk.moment g.D.Disk.left_at g.D.Disk.failures g.D.Disk.refusals (IsTrue g.D.Disk.is_honest) (drive_of c.args.limit (may_be_asked g.P.Probe.may_stop c.args.driver.now) (may_spawn c.args.driver.now) was_halted)
+  session = subst (λ (was_halted : Bool). Answers g.D.Disk (drive_of c.args.limit (may_be_asked g.P.Probe.may_stop c.args.driver.now) (may_spawn c.args.driver.now) was_halted)
       (g.R.Read.remaining c.args.input.now) (g.W.Write.contents c.args.out.now) (g.W.Write.contents c.run_session-core.new.out) c.in-Ok.core c.run_session-core.result.0 c.run_session-core.result.1) c.in-Ok.ensures.opened.working c.run_session-core.ensures;
   told = c.ran-outcome.ensures;
   disk = c.into_disk.ensures;

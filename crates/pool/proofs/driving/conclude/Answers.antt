@@ -1,4 +1,4 @@
-use Rattle.std.proofs.Common.{inr, false, subst, IsTrue, ℕ}
+use Rattle.std.proofs.Common.{inr, false, subst, ℕ}
 use Rattle.commit.specs.Runs.{RunsWithin}
 use Rattle.pool.proofs.Teams.{no_refusal}
 use Rattle.pool.proofs.driving.conclude.Goals as goal
@@ -7,7 +7,7 @@ pub returns-else-causes-4-clause-concludes : goal.returns-else-causes-4-clause-c
 returns-else-causes-4-clause-concludes g c = record {
   verdict = inr (
     c.in-Ok-Working.ensures.working,
-    subst (λ (n : ℕ). RunsWithin g.D.Disk.files g.D.Disk.moment g.D.Disk.left_at g.D.Disk.failures g.D.Disk.refusals (IsTrue g.D.Disk.is_honest) false false c.args.core c.run_with.result.0 n c.run_with.result.1) c.allowance-left.ensures
+    subst (λ (n : ℕ). RunsWithin g.D.Disk false false c.args.core c.run_with.result.0 n c.run_with.result.1) c.allowance-left.ensures
         (c.run_with.ensures.runs c.in-Ok-Working.ensures.working),
   );
   first = λ _. no_refusal c.args.causes c.run_with.result.1 c.if-causes.false c.if-causes-2.false c.if-causes-3.false;

@@ -1,8 +1,7 @@
-use Rattle.std.proofs.Common.{IsTrue}
 use Rattle.pool.proofs.Teams.{nothing_done}
 use Rattle.pool.proofs.driving.worked.Goals as goal
 
 pub returns-in-Err-clause-works : goal.returns-in-Err-clause-works
 returns-in-Err-clause-works g c =
-    nothing_done g.D.Disk.files g.D.Disk.moment g.D.Disk.left_at g.D.Disk.failures g.D.Disk.refusals (IsTrue g.D.Disk.is_honest) c.stores_go_on.ensures.rest_leaves c.stores_go_on.ensures.gates_rest c.args.core c.memory.result.full c.requires.working
+    nothing_done g.D.Disk c.stores_go_on.ensures.rest_leaves c.stores_go_on.ensures.gates_rest c.args.core c.memory.result.full c.requires.working
     (c.is_kept.ensures.settled c.requires.working) c.is_kept.ensures.kept c.memory.ensures.2

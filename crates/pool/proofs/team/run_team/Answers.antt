@@ -1,4 +1,4 @@
-use Rattle.std.proofs.Common.{◌≡◌, ◌∙◌, ◌+◌, ◌≤◌, ap, sym, subst, false, length, vec_capacity, vec_len, IsTrue, arith}
+use Rattle.std.proofs.Common.{◌≡◌, ◌∙◌, ◌+◌, ◌≤◌, ap, sym, subst, false, length, vec_capacity, vec_len, arith}
 use Rattle.commit.specs.Core.{Core}
 use Rattle.passes.specs.Known.{commits}
 use Rattle.passes.specs.Opening.{Opening}
@@ -8,8 +8,8 @@ use Rattle.pool.proofs.team.run_team.Goals as goal
 
 pub returns-in-Err-clause-works : goal.returns-in-Err-clause-works
 returns-in-Err-clause-works g c =
-    subst (λ (back : Core g.row.D.Denot). WorksOn g.D.Disk.files g.D.Disk.moment g.D.Disk.left_at g.D.Disk.failures g.D.Disk.refusals (IsTrue g.D.Disk.is_honest) c.args.core back c.memory-in-Err.result.full) (sym (c.into_core.ensures ∙ c.in-Err.ensures.err.0))
-    (nothing_done g.D.Disk.files g.D.Disk.moment g.D.Disk.left_at g.D.Disk.failures g.D.Disk.refusals (IsTrue g.D.Disk.is_honest) c.stores_go_on.ensures.rest_leaves c.stores_go_on.ensures.gates_rest c.args.core c.memory-in-Err.result.full c.requires.working
+    subst (λ (back : Core g.row.D.Denot). WorksOn g.D.Disk c.args.core back c.memory-in-Err.result.full) (sym (c.into_core.ensures ∙ c.in-Err.ensures.err.0))
+    (nothing_done g.D.Disk c.stores_go_on.ensures.rest_leaves c.stores_go_on.ensures.gates_rest c.args.core c.memory-in-Err.result.full c.requires.working
     (c.is_kept.ensures.settled c.requires.working) c.is_kept.ensures.kept c.memory-in-Err.ensures.2)
 
 pub returns-clause-works : goal.returns-clause-works
@@ -19,19 +19,19 @@ returns-clause-works g c =
     let working : g.J.Naming.opening.halted ≡ false = ap (λ (o : Opening). o.halted) c.requires.named.opening_is ∙ c.requires.working in
     record {
       commits = commits whole.0;
-      runs = runs_of_team g.D.Disk.files g.D.Disk.moment g.D.Disk.left_at g.D.Disk.failures g.D.Disk.refusals (IsTrue g.D.Disk.is_honest) g.J.Naming.opening g.J.Naming.left c.args.core c.close_when_idle-core.result (commits whole.0)
+      runs = runs_of_team g.D.Disk g.J.Naming.opening g.J.Naming.left c.args.core c.close_when_idle-core.result (commits whole.0)
           c.requires.named.opening_is c.requires.named.left_is (whole.1.ran.run none working);
-      met = λ full. met_by_team g.D.Disk.files g.D.Disk.moment g.D.Disk.left_at g.D.Disk.failures g.D.Disk.refusals (IsTrue g.D.Disk.is_honest) g.J.Naming.opening c.args.core whole.0 _ _ c.requires.named.opening_is whole.1.each (c.in_threads-back.ensures.full full);
+      met = λ full. met_by_team g.D.Disk g.J.Naming.opening c.args.core whole.0 _ _ c.requires.named.opening_is whole.1.each (c.in_threads-back.ensures.full full);
     }
 
 pub returns-in_default-clause-works : goal.returns-in_default-clause-works
 returns-in_default-clause-works g c =
-    nothing_done g.D.Disk.files g.D.Disk.moment g.D.Disk.left_at g.D.Disk.failures g.D.Disk.refusals (IsTrue g.D.Disk.is_honest) c.stores_go_on.ensures.rest_leaves c.stores_go_on.ensures.gates_rest c.args.core c.memory.result.full c.requires.working
+    nothing_done g.D.Disk c.stores_go_on.ensures.rest_leaves c.stores_go_on.ensures.gates_rest c.args.core c.memory.result.full c.requires.working
     (c.is_kept.ensures.settled c.requires.working) c.is_kept.ensures.kept c.memory.ensures.2
 
 pub returns-in_default-reserve-clause-works : goal.returns-in_default-reserve-clause-works
 returns-in_default-reserve-clause-works g c =
-    nothing_done g.D.Disk.files g.D.Disk.moment g.D.Disk.left_at g.D.Disk.failures g.D.Disk.refusals (IsTrue g.D.Disk.is_honest) c.stores_go_on.ensures.rest_leaves c.stores_go_on.ensures.gates_rest c.args.core c.memory-in_default-reserve.result.full c.requires.working
+    nothing_done g.D.Disk c.stores_go_on.ensures.rest_leaves c.stores_go_on.ensures.gates_rest c.args.core c.memory-in_default-reserve.result.full c.requires.working
     (c.is_kept.ensures.settled c.requires.working) c.is_kept.ensures.kept c.memory-in_default-reserve.ensures.2
 
 pub unwrap-boss-requires : goal.unwrap-boss-requires

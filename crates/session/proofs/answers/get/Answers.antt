@@ -1,8 +1,7 @@
-use Rattle.std.proofs.Common.{IsTrue}
 use Rattle.commit.proofs.GoingOn.{nothing_came}
 use Rattle.session.proofs.answers.get.Goals as goal
 
 pub returns-clause-goes_on : goal.returns-clause-goes_on
 returns-clause-goes_on g c =
-    nothing_came g.D.Disk.files g.D.Disk.moment g.D.Disk.left_at g.D.Disk.failures g.D.Disk.refusals (IsTrue g.D.Disk.is_honest) c.stores_go_on.ensures.rest_leaves c.stores_go_on.ensures.gates_rest
+    nothing_came g.D.Disk c.stores_go_on.ensures.rest_leaves c.stores_go_on.ensures.gates_rest
     c.args.core.now c.is_kept.ensures.kept c.is_kept.ensures.settled

@@ -1,4 +1,4 @@
-use Rattle.std.proofs.Common.{◌≡◌, ◌↔◌, List, None, true, sym, subst, w64, ℤ, IsTrue}
+use Rattle.std.proofs.Common.{◌≡◌, ◌↔◌, List, None, true, sym, subst, w64, ℤ}
 use Rattle.std.proofs.lemmas.Int.{to_z-of_z}
 use Rattle.terms.specs.declared.event.Event.{Event}
 use Rattle.terms.specs.declared.event.Event.TheVariants.{EnvItem}
@@ -23,10 +23,10 @@ returns-clause-replies g c =
     let new = c.put_item-put.new.self in
     let it = c.put_item-put.ensures in
     let why = RefusesItem (graph old) (facts old) c.args.address in
-    let at = λ (event : Event) (reply : Reply). (came : List Event) × GoesOnBy g.D.Disk.files g.D.Disk.moment g.D.Disk.left_at g.D.Disk.failures g.D.Disk.refusals (IsTrue g.D.Disk.is_honest) old new came × RepliesPut (graph old) (facts old) why event came reply in
+    let at = λ (event : Event) (reply : Reply). (came : List Event) × GoesOnBy g.D.Disk old new came × RepliesPut (graph old) (facts old) why event came reply in
     let replied =
     subst (λ (event : Event). at event (put_reply c.put_item-put.result)) (λ i. EnvItem c.args.address (to_z-of_z w64 c.args.value c.ranges.value i))
-    (replied_put g.D.Disk.files g.D.Disk.moment g.D.Disk.left_at g.D.Disk.failures g.D.Disk.refusals (IsTrue g.D.Disk.is_honest) c.stores_go_on.ensures.rest_leaves c.stores_go_on.ensures.gates_rest (λ _. c.stores_go_on.ensures.append_leaves) c.stores_go_on.ensures.held_leaves
+    (replied_put g.D.Disk c.stores_go_on.ensures.rest_leaves c.stores_go_on.ensures.gates_rest (λ _. c.stores_go_on.ensures.append_leaves) c.stores_go_on.ensures.held_leaves
     old new _ why c.is_kept.ensures.kept c.is_kept-2.ensures.kept c.is_kept.ensures.settled
     c.put_item-put.result it.commits.takes it.unchanged it.commits.refused it.commits.doubt it.commits.moments it.halts)
     in
@@ -35,7 +35,7 @@ returns-clause-replies g c =
     (λ is. subst (λ (value : ℤ). IsTooLong old (EnvItem c.args.address value)) (to_z-of_z w64 c.args.value c.ranges.value) is)
     c.put_item-put.result it.commits.takes it.commits.refused it.halts
     in
-    subst (λ (reply : Reply). (came : List Event) × (goes : GoesOnBy g.D.Disk.files g.D.Disk.moment g.D.Disk.left_at g.D.Disk.failures g.D.Disk.refusals (IsTrue g.D.Disk.is_honest) old new came)
+    subst (λ (reply : Reply). (came : List Event) × (goes : GoesOnBy g.D.Disk old new came)
     × RepliesPut (graph old) (facts old) why (EnvItem c.args.address c.args.value) came reply × HasCause g.D.Disk.failures old new (Put c.args.address c.args.value) goes.commits reply) (sym c.put_reply.ensures)
     (replied.0, replied.1, replied.2, cause)
 

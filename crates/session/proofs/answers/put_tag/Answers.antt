@@ -1,4 +1,4 @@
-use Rattle.std.proofs.Common.{◌≡◌, ◌↔◌, List, None, true, sym, subst, IsTrue}
+use Rattle.std.proofs.Common.{◌≡◌, ◌↔◌, List, None, true, sym, subst}
 use Rattle.terms.specs.declared.event.Event.{Event}
 use Rattle.terms.specs.declared.event.Event.TheVariants.{EnvTag}
 use Rattle.machine.specs.Machine.{RefusesTag}
@@ -22,7 +22,7 @@ returns-clause-replies g c =
     let it = c.put_tag-put.ensures in
     let why = RefusesTag (graph old) (facts old) c.args.tag in
     let replied =
-    replied_put g.D.Disk.files g.D.Disk.moment g.D.Disk.left_at g.D.Disk.failures g.D.Disk.refusals (IsTrue g.D.Disk.is_honest) c.stores_go_on.ensures.rest_leaves c.stores_go_on.ensures.gates_rest (λ _. c.stores_go_on.ensures.append_leaves) c.stores_go_on.ensures.held_leaves
+    replied_put g.D.Disk c.stores_go_on.ensures.rest_leaves c.stores_go_on.ensures.gates_rest (λ _. c.stores_go_on.ensures.append_leaves) c.stores_go_on.ensures.held_leaves
     old new (EnvTag c.args.tag) why c.is_kept.ensures.kept c.is_kept-2.ensures.kept c.is_kept.ensures.settled
     c.put_tag-put.result it.commits.takes it.unchanged it.commits.refused it.commits.doubt it.commits.moments it.halts
     in
@@ -30,7 +30,7 @@ returns-clause-replies g c =
     put_cause g.D.Disk.failures g.D.Disk.refusals old new why (EnvTag c.args.tag) (Tag c.args.tag) replied.1.commits tt (λ is. is)
     c.put_tag-put.result it.commits.takes it.commits.refused it.halts
     in
-    subst (λ (reply : Reply). (came : List Event) × (goes : GoesOnBy g.D.Disk.files g.D.Disk.moment g.D.Disk.left_at g.D.Disk.failures g.D.Disk.refusals (IsTrue g.D.Disk.is_honest) old new came)
+    subst (λ (reply : Reply). (came : List Event) × (goes : GoesOnBy g.D.Disk old new came)
     × RepliesPut (graph old) (facts old) why (EnvTag c.args.tag) came reply × HasCause g.D.Disk.failures old new (Tag c.args.tag) goes.commits reply) (sym c.put_reply.ensures)
     (replied.0, replied.1, replied.2, cause)
 

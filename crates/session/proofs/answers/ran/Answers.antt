@@ -1,8 +1,7 @@
-use Rattle.std.proofs.Common.{IsTrue}
 use Rattle.session.proofs.OneLine.{by_verdict}
 use Rattle.session.proofs.answers.ran.Goals as goal
 
 pub returns : goal.returns
 returns g c =
     let it = c.told.ensures in
-    by_verdict g.D.Disk.files g.D.Disk.moment g.D.Disk.left_at g.D.Disk.failures g.D.Disk.refusals (IsTrue g.D.Disk.is_honest) c.stores_go_on.ensures.rest_leaves c.stores_go_on.ensures.gates_rest c.args.core.now c.is_kept.ensures.kept c.is_kept.ensures.settled c.args.verdict c.told.result it.exact it.tells it.cause it.stays
+    by_verdict g.D.Disk c.stores_go_on.ensures.rest_leaves c.stores_go_on.ensures.gates_rest c.args.core.now c.is_kept.ensures.kept c.is_kept.ensures.settled c.args.verdict c.told.result it.exact it.tells it.cause it.stays

@@ -1,4 +1,4 @@
-use Rattle.std.proofs.Common.{IsTrue, subst}
+use Rattle.std.proofs.Common.{subst}
 use Rattle.std.specs.Prelude.{Result}
 use Rattle.session.specs.declared.ending.Ending.{Ending}
 use Rattle.session.specs.declared.error.SessionError.{SessionError}
@@ -12,14 +12,14 @@ pub returns-in-Ok-clause-answers : goal.returns-in-Ok-clause-answers
 returns-in-Ok-clause-answers g c drive commands first begun lines =
     let before = g.O.Sink.contents first in
     let here = g.O.Sink.contents c.args.out.now in
-    reported g.D.Disk.files g.D.Disk.moment g.D.Disk.left_at g.D.Disk.failures g.D.Disk.refusals (IsTrue g.D.Disk.is_honest) drive commands before here (g.O.Sink.contents c.with_report.new.out) begun c.args.core.now c.in-Ok.ending c.with_report.result
-    (subst (λ (r : Result Ending SessionError). AnswersLines g.D.Disk.files g.D.Disk.moment g.D.Disk.left_at g.D.Disk.failures g.D.Disk.refusals (IsTrue g.D.Disk.is_honest) drive commands before here begun c.args.core.now r) c.in-Ok.is lines) c.with_report.ensures.closed c.with_report.ensures.err c.with_report.ensures.unwritten
+    reported g.D.Disk drive commands before here (g.O.Sink.contents c.with_report.new.out) begun c.args.core.now c.in-Ok.ending c.with_report.result
+    (subst (λ (r : Result Ending SessionError). AnswersLines g.D.Disk drive commands before here begun c.args.core.now r) c.in-Ok.is lines) c.with_report.ensures.closed c.with_report.ensures.err c.with_report.ensures.unwritten
 
 pub returns-in-Err-clause-answers : goal.returns-in-Err-clause-answers
 returns-in-Err-clause-answers g c drive commands first begun lines =
     let before = g.O.Sink.contents first in
     let here = g.O.Sink.contents c.args.out.now in
-    unreported g.D.Disk.files g.D.Disk.moment g.D.Disk.left_at g.D.Disk.failures g.D.Disk.refusals (IsTrue g.D.Disk.is_honest) drive commands before here here begun c.args.core.now c.in-Err.error (subst (λ (r : Result Ending SessionError). AnswersLines g.D.Disk.files g.D.Disk.moment g.D.Disk.left_at g.D.Disk.failures g.D.Disk.refusals (IsTrue g.D.Disk.is_honest) drive commands before here begun c.args.core.now r) c.in-Err.is lines)
+    unreported g.D.Disk drive commands before here here begun c.args.core.now c.in-Err.error (subst (λ (r : Result Ending SessionError). AnswersLines g.D.Disk drive commands before here begun c.args.core.now r) c.in-Err.is lines)
 
 pub returns-in-Ok-clause-sink : goal.returns-in-Ok-clause-sink
 returns-in-Ok-clause-sink g c first tells =

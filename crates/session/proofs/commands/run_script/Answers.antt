@@ -1,4 +1,4 @@
-use Rattle.std.proofs.Common.{IsTrue, refl, subst, sym}
+use Rattle.std.proofs.Common.{refl, subst, sym}
 use Rattle.std.specs.Prelude.{Result}
 use Rattle.commit.specs.Core.{is_halted}
 use Rattle.pool.specs.Driver.{may_be_asked, may_spawn}
@@ -16,7 +16,7 @@ loop-core-init g c =
     let new = c.new-progress in
     record {
       idle = c.requires.idle;
-      stands = stands_first g.D.Disk.files g.D.Disk.moment g.D.Disk.left_at g.D.Disk.failures g.D.Disk.refusals (IsTrue g.D.Disk.is_honest) g.O.Sink.target g.O.Sink.has_failed g.O.Sink.contents c.stores_go_on.ensures.rest_leaves c.stores_go_on.ensures.gates_rest (drive_of c.args.limit (may_be_asked g.P.Probe.may_stop c.args.driver.now) (may_spawn c.args.driver.now) (is_halted c.args.core)) c.args.commands.now new.result.left.now c.args.out.now core new.result.ending new.result.failed
+      stands = stands_first g.D.Disk g.O.Sink.target g.O.Sink.has_failed g.O.Sink.contents c.stores_go_on.ensures.rest_leaves c.stores_go_on.ensures.gates_rest (drive_of c.args.limit (may_be_asked g.P.Probe.may_stop c.args.driver.now) (may_spawn c.args.driver.now) (is_halted c.args.core)) c.args.commands.now new.result.left.now c.args.out.now core new.result.ending new.result.failed
           c.is_kept.ensures.kept c.is_kept.ensures.settled refl new.ensures.left new.ensures.ending new.ensures.failed;
     }
 
@@ -34,7 +34,7 @@ pub returns-clause-answers : goal.returns-clause-answers
 returns-clause-answers g c =
     let over = c.loop-core-test.ensures.reaches (drive_of c.args.limit (may_be_asked g.P.Probe.may_stop c.args.driver.now) (may_spawn c.args.driver.now) (is_halted c.args.core)) c.args.commands.now c.args.out.now c.args.core c.loop-core.invariant.stands in
     c.close-ended.ensures.answers (drive_of c.args.limit (may_be_asked g.P.Probe.may_stop c.args.driver.now) (may_spawn c.args.driver.now) (is_halted c.args.core)) c.args.commands.now c.args.out.now c.args.core
-    (subst (λ (r : Result Ending SessionError). AnswersLines g.D.Disk.files g.D.Disk.moment g.D.Disk.left_at g.D.Disk.failures g.D.Disk.refusals (IsTrue g.D.Disk.is_honest) (drive_of c.args.limit (may_be_asked g.P.Probe.may_stop c.args.driver.now) (may_spawn c.args.driver.now) (is_halted c.args.core)) c.args.commands.now (g.O.Sink.contents c.args.out.now) (g.O.Sink.contents c.reach_run.new.out) c.args.core c.reach_run.new.core r) (sym c.went.ensures) over.0)
+    (subst (λ (r : Result Ending SessionError). AnswersLines g.D.Disk (drive_of c.args.limit (may_be_asked g.P.Probe.may_stop c.args.driver.now) (may_spawn c.args.driver.now) (is_halted c.args.core)) c.args.commands.now (g.O.Sink.contents c.args.out.now) (g.O.Sink.contents c.reach_run.new.out) c.args.core c.reach_run.new.core r) (sym c.went.ensures) over.0)
 
 pub returns-clause-sink : goal.returns-clause-sink
 returns-clause-sink g c =

@@ -1,4 +1,4 @@
-use Rattle.std.proofs.Common.{List, Ok, ap, arith, length, subst, sym, IsTrue}
+use Rattle.std.proofs.Common.{List, Ok, ap, arith, length, subst, sym}
 use Rattle.std.specs.List.{AllByRecursion}
 use Rattle.terms.specs.declared.event.Event.{Event}
 use Rattle.machine.specs.Machine.{IsPut}
@@ -18,23 +18,23 @@ put_all-requires-clause-few g c = omega (arith, ap length c.in-Ok.ensures, no_mo
 
 pub returns-in-Ok-put_all-clause-idle : goal.returns-in-Ok-put_all-clause-idle
 returns-in-Ok-put_all-clause-idle g c =
-    idle_after g.D.Disk.files g.D.Disk.moment g.D.Disk.left_at g.D.Disk.failures g.D.Disk.refusals (IsTrue g.D.Disk.is_honest) c.args.core.now c.put_all.new.self c.in-Ok.events.items (Ok c.in-Ok-put_all.count)
+    idle_after g.D.Disk c.args.core.now c.put_all.new.self c.in-Ok.events.items (Ok c.in-Ok-put_all.count)
     (subst (λ (list : List Event). AllByRecursion IsPut list) (sym c.in-Ok.ensures) (are_puts c.args.commands.now)) c.in-Ok-put_all.ensures c.requires.idle
 
 pub returns-in-Ok-put_all-clause-answers : goal.returns-in-Ok-put_all-clause-answers
 returns-in-Ok-put_all-clause-answers g c =
-    first_came g.D.Disk.files g.D.Disk.moment g.D.Disk.left_at g.D.Disk.failures g.D.Disk.refusals (IsTrue g.D.Disk.is_honest) c.args.core.now c.put_all.new.self c.args.commands.now c.in-Ok-put_all.count c.requires.puts c.requires.few
+    first_came g.D.Disk c.args.core.now c.put_all.new.self c.args.commands.now c.in-Ok-put_all.count c.requires.puts c.requires.few
     (omega (arith, c.in-Ok-put_all.count-test))
-    (subst (λ (list : List Event). PutsAll g.D.Disk.files g.D.Disk.moment g.D.Disk.left_at g.D.Disk.failures g.D.Disk.refusals (IsTrue g.D.Disk.is_honest) c.args.core.now c.put_all.new.self list (Ok c.in-Ok-put_all.count)) c.in-Ok.ensures c.in-Ok-put_all.ensures)
+    (subst (λ (list : List Event). PutsAll g.D.Disk c.args.core.now c.put_all.new.self list (Ok c.in-Ok-put_all.count)) c.in-Ok.ensures c.in-Ok-put_all.ensures)
 
 pub returns-in-Err-status-clause-answers : goal.returns-in-Err-status-clause-answers
 returns-in-Err-status-clause-answers g c =
-    subst (λ (reply : Reply). AnswersFirst g.D.Disk.files g.D.Disk.moment g.D.Disk.left_at g.D.Disk.failures g.D.Disk.refusals (IsTrue g.D.Disk.is_honest) c.args.core.now c.put_all.new.self c.args.commands.now reply) (sym c.refusal.ensures)
-    (first_halted g.D.Disk.files g.D.Disk.moment g.D.Disk.left_at g.D.Disk.failures g.D.Disk.refusals (IsTrue g.D.Disk.is_honest) c.args.core.now c.put_all.new.self c.in-Ok.events.items c.in-Err-put_all.error c.in-Err-put_all.ensures c.in-Err-status.ensures.halted.0
+    subst (λ (reply : Reply). AnswersFirst g.D.Disk c.args.core.now c.put_all.new.self c.args.commands.now reply) (sym c.refusal.ensures)
+    (first_halted g.D.Disk c.args.core.now c.put_all.new.self c.in-Ok.events.items c.in-Err-put_all.error c.in-Err-put_all.ensures c.in-Err-status.ensures.halted.0
     c.args.commands.now c.requires.some c.requires.puts c.in-Ok.ensures)
 
 pub returns-in-Err-clause-answers : goal.returns-in-Err-clause-answers
 returns-in-Err-clause-answers g c = (
-  same_store g.D.Disk.files g.D.Disk.moment g.D.Disk.left_at g.D.Disk.failures g.D.Disk.refusals (IsTrue g.D.Disk.is_honest) c.args.core.now,
-  nothing_came g.D.Disk.files g.D.Disk.moment g.D.Disk.left_at g.D.Disk.failures g.D.Disk.refusals (IsTrue g.D.Disk.is_honest) c.stores_go_on.ensures.rest_leaves c.stores_go_on.ensures.gates_rest c.args.core.now c.is_kept.ensures.kept c.is_kept.ensures.settled,
+  same_store g.D.Disk c.args.core.now,
+  nothing_came g.D.Disk c.stores_go_on.ensures.rest_leaves c.stores_go_on.ensures.gates_rest c.args.core.now c.is_kept.ensures.kept c.is_kept.ensures.settled,
 )

@@ -1,4 +1,4 @@
-use Rattle.std.proofs.Common.{◌∙◌, IsTrue, false}
+use Rattle.std.proofs.Common.{◌∙◌, false}
 use Rattle.commit.specs.Core.{is_halted}
 use Rattle.session.specs.Answers.{drive_of}
 use Rattle.session.proofs.Failing.{ran_calm, unwritten_told}
@@ -7,12 +7,12 @@ use Rattle.session.proofs.sessions.session_alone.Goals as goal
 
 pub returns-in-Ok-clause-answers : goal.returns-in-Ok-clause-answers
 returns-in-Ok-clause-answers g c =
-    answered g.D.Disk.files g.D.Disk.moment g.D.Disk.left_at g.D.Disk.failures g.D.Disk.refusals (IsTrue g.D.Disk.is_honest) (drive_of c.args.limit false false (is_halted c.args.core)) (g.S.Source.remaining c.args.input.now) (g.O.Sink.contents c.args.out.now) (g.O.Sink.contents c.run_script_alone.new.out) c.args.core c.run_script_alone.result.0 c.deref.result.now (c.deref.ensures ∙ c.graph.ensures)
+    answered g.D.Disk (drive_of c.args.limit false false (is_halted c.args.core)) (g.S.Source.remaining c.args.input.now) (g.O.Sink.contents c.args.out.now) (g.O.Sink.contents c.run_script_alone.new.out) c.args.core c.run_script_alone.result.0 c.deref.result.now (c.deref.ensures ∙ c.graph.ensures)
     c.run_script_alone.result.1 c.in-Ok.commands.items c.as_slice.result.now c.as_slice.ensures.value c.in-Ok.ensures.read c.run_script_alone.ensures.answers
 
 pub returns-in-Err-clause-answers : goal.returns-in-Err-clause-answers
 returns-in-Err-clause-answers g c =
-    unread g.D.Disk.files g.D.Disk.moment g.D.Disk.left_at g.D.Disk.failures g.D.Disk.refusals (IsTrue g.D.Disk.is_honest) (drive_of c.args.limit false false (is_halted c.args.core)) (g.S.Source.remaining c.args.input.now) (g.O.Sink.contents c.args.out.now) (g.O.Sink.contents c.args.out.now) c.args.core c.args.core c.deref.result.now (c.deref.ensures ∙ c.graph.ensures) c.in-Err.error c.in-Err.ensures.fails
+    unread g.D.Disk (drive_of c.args.limit false false (is_halted c.args.core)) (g.S.Source.remaining c.args.input.now) (g.O.Sink.contents c.args.out.now) (g.O.Sink.contents c.args.out.now) c.args.core c.args.core c.deref.result.now (c.deref.ensures ∙ c.graph.ensures) c.in-Err.error c.in-Err.ensures.fails
 
 pub returns-in-Ok-clause-source : goal.returns-in-Ok-clause-source
 returns-in-Ok-clause-source g c =

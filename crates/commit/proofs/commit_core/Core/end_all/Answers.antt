@@ -38,7 +38,7 @@ returns-in-Ok g c =
       err = back;
       halts = halting;
       runs = λ working.
-          all_run g.D.Disk.files g.D.Disk.moment g.D.Disk.left_at g.D.Disk.failures g.D.Disk.refusals (IsTrue g.D.Disk.is_honest) c.taken_in_turn.ensures c.cut_in_turn.ensures
+          all_run g.D.Disk c.taken_in_turn.ensures c.cut_in_turn.ensures
           (λ _. c.stores_go_on.ensures.append_leaves) c.stores_go_on.ensures.held_leaves c.stores_go_on.ensures.rest_leaves c.stores_go_on.ensures.gates_rest
           old new c.args.tasks c.args.ends.items result working (c.is_kept.ensures.settled working) c.requires.here c.is_kept.ensures.kept c.is_kept-in-Ok.ensures.kept done
           (tried_within old mid room g.D.Disk.files g.D.Disk.moment g.D.Disk.left_at (IsTrue g.D.Disk.is_honest) new c.args.tasks c.args.ends.items c.in-Ok.ended commit result looked.0 looked.1 (of_ends.some c.requires.some) it.ok it.told it.refused it.full it.doubt it.moments
@@ -64,7 +64,7 @@ returns-in-Err g c =
       err = back;
       halts = halting;
       runs = λ working.
-          all_run g.D.Disk.files g.D.Disk.moment g.D.Disk.left_at g.D.Disk.failures g.D.Disk.refusals (IsTrue g.D.Disk.is_honest) c.taken_in_turn.ensures c.cut_in_turn.ensures
+          all_run g.D.Disk c.taken_in_turn.ensures c.cut_in_turn.ensures
           (λ _. c.stores_go_on.ensures.append_leaves) c.stores_go_on.ensures.held_leaves c.stores_go_on.ensures.rest_leaves c.stores_go_on.ensures.gates_rest
           old new c.args.tasks c.args.ends.items (Err error) working (c.is_kept.ensures.settled working) c.requires.here c.is_kept.ensures.kept c.is_kept-in-Err.ensures.kept done (omega arith) back halting;
     }

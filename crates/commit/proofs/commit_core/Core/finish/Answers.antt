@@ -39,8 +39,8 @@ returns-then-is_halted g c =
     let new : Core g.row.D.Denot = record { vault = c.self.inside.vault; machine = c.release.new.self; in_doubt = events_in c.self.inside.in_doubt; latest = events_in c.self.inside.latest; allowance = c.self.inside.allowance } in
     let end = an_end c.args.outcome c.args.task in
     let halted : is_halted before ≡ true = sym c.is_halted.ensures ∙ c.if-is_halted.true in
-    subst (λ (old : Core g.row.D.Denot). Ends g.D.Disk.files g.D.Disk.moment g.D.Disk.left_at g.D.Disk.failures g.D.Disk.refusals (IsTrue g.D.Disk.is_honest) old new c.args.task c.args.outcome (Err (Store Halted))) c.self.view_is
-    (ends_halted g.D.Disk.files g.D.Disk.moment g.D.Disk.left_at g.D.Disk.failures g.D.Disk.refusals (IsTrue g.D.Disk.is_honest) before new c.args.task c.args.outcome end.0 end.1 halted c.release.ensures refl refl refl refl)
+    subst (λ (old : Core g.row.D.Denot). Ends g.D.Disk old new c.args.task c.args.outcome (Err (Store Halted))) c.self.view_is
+    (ends_halted g.D.Disk before new c.args.task c.args.outcome end.0 end.1 halted c.release.ensures refl refl refl refl)
 
 pub returns-in-Gave : goal.returns-in-Gave
 returns-in-Gave g c =
@@ -56,7 +56,7 @@ returns-in-Gave g c =
       err = c.end-ended.ensures.err;
       halts = c.end-ended.ensures.halts;
       runs = λ working.
-          finished g.D.Disk.files g.D.Disk.moment g.D.Disk.left_at g.D.Disk.failures g.D.Disk.refusals (IsTrue g.D.Disk.is_honest)
+          finished g.D.Disk
           (λ _. c.stores_go_on.ensures.append_leaves) c.stores_go_on.ensures.held_leaves c.stores_go_on.ensures.rest_leaves c.stores_go_on.ensures.gates_rest
           old new c.args.task c.args.outcome c.end-ended.result
           working (c.is_kept.ensures.settled working) left c.is_kept.ensures.kept finishes c.end-ended.ensures.err c.end-ended.ensures.halts c.is_kept-in-Gave.ensures.kept;
@@ -76,7 +76,7 @@ returns-in-Fault g c =
       err = c.stop-ended.ensures.err;
       halts = c.stop-ended.ensures.halts;
       runs = λ working.
-          finished g.D.Disk.files g.D.Disk.moment g.D.Disk.left_at g.D.Disk.failures g.D.Disk.refusals (IsTrue g.D.Disk.is_honest)
+          finished g.D.Disk
           (λ _. c.stores_go_on.ensures.append_leaves) c.stores_go_on.ensures.held_leaves c.stores_go_on.ensures.rest_leaves c.stores_go_on.ensures.gates_rest
           old new c.args.task c.args.outcome c.stop-ended.result
           working (c.is_kept.ensures.settled working) left c.is_kept.ensures.kept finishes c.stop-ended.ensures.err c.stop-ended.ensures.halts c.is_kept-in-Fault.ensures.kept;

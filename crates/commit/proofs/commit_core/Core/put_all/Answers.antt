@@ -25,9 +25,9 @@ returns-then-count-eq0 g c =
       count = 0;
       together = λ _. looked;
       told = refl;
-      tries = nothing_tried g.D.Disk.files g.D.Disk.moment g.D.Disk.left_at g.D.Disk.failures g.D.Disk.refusals (IsTrue g.D.Disk.is_honest) core working (c.is_kept.ensures.settled working)
+      tries = nothing_tried g.D.Disk core working (c.is_kept.ensures.settled working)
           c.stores_go_on.ensures.held_leaves c.stores_go_on.ensures.gates_rest c.is_kept.ensures.kept;
-      goes_on = nothing_came g.D.Disk.files g.D.Disk.moment g.D.Disk.left_at g.D.Disk.failures g.D.Disk.refusals (IsTrue g.D.Disk.is_honest) c.stores_go_on.ensures.rest_leaves c.stores_go_on.ensures.gates_rest core c.is_kept.ensures.kept c.is_kept.ensures.settled;
+      goes_on = nothing_came g.D.Disk c.stores_go_on.ensures.rest_leaves c.stores_go_on.ensures.gates_rest core c.is_kept.ensures.kept c.is_kept.ensures.settled;
     }
 
 pub returns : goal.returns
@@ -46,12 +46,12 @@ returns g c =
     in
     let many : length (take count puts) ≡ count = counted count puts looked.within in
     let some : 1 ≤ length (take count puts) = omega (arith, many, c.if-count-eq0.false) in
-    let tried = subst (λ (list : List Event). TriesPuts g.D.Disk.files g.D.Disk.moment g.D.Disk.left_at g.D.Disk.failures g.D.Disk.refusals (IsTrue g.D.Disk.is_honest) old new list result) same c.put_together-answer.ensures.tries in
+    let tried = subst (λ (list : List Event). TriesPuts g.D.Disk old new list result) same c.put_together-answer.ensures.tries in
     record {
       count = count;
       together = λ _. looked;
       told = if_ok result (λ answer. answer ≡ length commit) (λ answer. answer ≡ count) (λ answer is. is ∙ ap (λ (list : List Event). length list) same ∙ many) c.put_together-answer.ensures.told;
       tries = tried;
-      goes_on = puts_go_on g.D.Disk.files g.D.Disk.moment g.D.Disk.left_at g.D.Disk.failures g.D.Disk.refusals (IsTrue g.D.Disk.is_honest) c.taken_in_turn.ensures (λ _. c.stores_go_on.ensures.append_leaves) c.stores_go_on.ensures.held_leaves
+      goes_on = puts_go_on g.D.Disk c.taken_in_turn.ensures (λ _. c.stores_go_on.ensures.append_leaves) c.stores_go_on.ensures.held_leaves
           c.stores_go_on.ensures.rest_leaves c.stores_go_on.ensures.gates_rest old new (take count puts) result some looked.legal c.is_kept.ensures.settled c.is_kept.ensures.kept c.is_kept-2.ensures.kept tried;
     }

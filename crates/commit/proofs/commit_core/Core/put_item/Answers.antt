@@ -16,8 +16,8 @@ returns-in-Ok g c =
     let mid = c.make_ready_for_item.new.self in
     let why = RefusesItem (graph old) (facts old) c.args.addr in
     let put = c.commit_put.ensures in
-    subst (λ (e : Event). CommitsAs g.D.Disk.files g.D.Disk.moment g.D.Disk.left_at g.D.Disk.failures g.D.Disk.refusals (IsTrue g.D.Disk.is_honest) old c.commit_put.new.self why e c.commit_put.result) (λ i. EnvItem c.args.addr (to_z-of_z w64 c.args.value c.ranges.value i))
-    (put_as g.D.Disk.files g.D.Disk.moment g.D.Disk.left_at g.D.Disk.failures g.D.Disk.refusals (IsTrue g.D.Disk.is_honest) old mid c.make_ready_for_item.ensures.same c.commit_put.new.self why (EnvItem c.args.addr (to_z w64 (of_z w64 c.args.value))) c.commit_put.result
+    subst (λ (e : Event). CommitsAs g.D.Disk old c.commit_put.new.self why e c.commit_put.result) (λ i. EnvItem c.args.addr (to_z-of_z w64 c.args.value c.ranges.value i))
+    (put_as g.D.Disk old mid c.make_ready_for_item.ensures.same c.commit_put.new.self why (EnvItem c.args.addr (to_z w64 (of_z w64 c.args.value))) c.commit_put.result
     put.ok put.err put.refused put.full put.halts put.doubt put.moments)
 
 pub returns-in-Err : goal.returns-in-Err
@@ -25,6 +25,6 @@ returns-in-Err g c =
     let old = c.args.self.now in
     let mid = c.make_ready_for_item.new.self in
     let why = RefusesItem (graph old) (facts old) c.args.addr in
-    refused_as g.D.Disk.files g.D.Disk.moment g.D.Disk.left_at g.D.Disk.failures g.D.Disk.refusals (IsTrue g.D.Disk.is_honest) old mid c.make_ready_for_item.ensures.same why (EnvItem c.args.addr c.args.value) c.in-Err.error (illegal_item (graph old) (facts old) c.args.addr c.args.value)
+    refused_as g.D.Disk old mid c.make_ready_for_item.ensures.same why (EnvItem c.args.addr c.args.value) c.in-Err.error (illegal_item (graph old) (facts old) c.args.addr c.args.value)
     (subst (λ (e : Event). RefusesFirst old why e c.in-Err.error) (λ i. EnvItem c.args.addr (to_z-of_z w64 c.args.value c.ranges.value i)) c.in-Err.ensures.refused)
     c.stores_go_on.ensures.held_leaves c.stores_go_on.ensures.gates_rest c.is_kept.ensures.kept

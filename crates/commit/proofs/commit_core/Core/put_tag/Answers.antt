@@ -9,11 +9,11 @@ pub returns-in-Ok : goal.returns-in-Ok
 returns-in-Ok g c =
     let old = c.args.self.now in
     let put = c.commit_put.ensures in
-    put_as g.D.Disk.files g.D.Disk.moment g.D.Disk.left_at g.D.Disk.failures g.D.Disk.refusals (IsTrue g.D.Disk.is_honest) old c.make_ready_for_tag.new.self c.make_ready_for_tag.ensures.same c.commit_put.new.self (RefusesTag (graph old) (facts old) c.args.tag) (EnvTag c.args.tag) c.commit_put.result
+    put_as g.D.Disk old c.make_ready_for_tag.new.self c.make_ready_for_tag.ensures.same c.commit_put.new.self (RefusesTag (graph old) (facts old) c.args.tag) (EnvTag c.args.tag) c.commit_put.result
     put.ok put.err put.refused put.full put.halts put.doubt put.moments
 
 pub returns-in-Err : goal.returns-in-Err
 returns-in-Err g c =
     let old = c.args.self.now in
-    refused_as g.D.Disk.files g.D.Disk.moment g.D.Disk.left_at g.D.Disk.failures g.D.Disk.refusals (IsTrue g.D.Disk.is_honest) old c.make_ready_for_tag.new.self c.make_ready_for_tag.ensures.same (RefusesTag (graph old) (facts old) c.args.tag) (EnvTag c.args.tag) c.in-Err.error
+    refused_as g.D.Disk old c.make_ready_for_tag.new.self c.make_ready_for_tag.ensures.same (RefusesTag (graph old) (facts old) c.args.tag) (EnvTag c.args.tag) c.in-Err.error
     (illegal_tag (graph old) (facts old) c.args.tag) c.in-Err.ensures.refused c.stores_go_on.ensures.held_leaves c.stores_go_on.ensures.gates_rest c.is_kept.ensures.kept

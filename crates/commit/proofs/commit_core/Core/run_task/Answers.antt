@@ -21,31 +21,31 @@ pub returns-in-Err-finish-clause-err : goal.returns-in-Err-finish-clause-err
 returns-in-Err-finish-clause-err g c =
     let it = c.in-Err-finish.ensures.finishes in
     let allowed = some_left c.runs_are_counted.ensures.one c.args.self.now.machine c.args.task c.args.self.now.allowance c.requires.running c.is_kept.ensures.allowed in
-    ends_early g.D.Disk.files g.D.Disk.moment g.D.Disk.left_at g.D.Disk.failures g.D.Disk.refusals (IsTrue g.D.Disk.is_honest) c.args.self.now c.finish.new.self c.args.task it.end _ c.requires.working allowed c.requires.no_fault
+    ends_early g.D.Disk c.args.self.now c.finish.new.self c.args.task it.end _ c.requires.working allowed c.requires.no_fault
     (is_end _ c.args.task it.end it.is_end) c.in-Err-finish.ensures.err it.commits.refused c.in-Err-finish.ensures.halts
 
-pub returns-in-Ok-park-clause-runs : goal.returns-in-Ok-park-clause-runs
-returns-in-Ok-park-clause-runs g c = record {
+pub returns-in-Ok-let_wait-clause-runs : goal.returns-in-Ok-let_wait-clause-runs
+returns-in-Ok-let_wait-clause-runs g c = record {
   commits = [];
   runs =
-      rests g.D.Disk.files g.D.Disk.moment g.D.Disk.left_at g.D.Disk.failures g.D.Disk.refusals (IsTrue g.D.Disk.is_honest) c.stores_go_on.ensures.rest_leaves c.stores_go_on.ensures.gates_rest c.args.self.now c.park.new.self c.requires.working c.is_kept.ensures.kept
-      (looked c.args.self.now c.park.new.self c.args.task _ c.in-Ok-park.ensures.ok.1 c.requires.working (c.is_kept.ensures.settled c.requires.working));
+      rests g.D.Disk c.stores_go_on.ensures.rest_leaves c.stores_go_on.ensures.gates_rest c.args.self.now c.let_wait.new.self c.requires.working c.is_kept.ensures.kept
+      (looked c.args.self.now c.let_wait.new.self c.args.task _ c.in-Ok-let_wait.ensures.ok.1 c.requires.working (c.is_kept.ensures.settled c.requires.working));
 }
 
-pub returns-in-Err-park-clause-runs : goal.returns-in-Err-park-clause-runs
-returns-in-Err-park-clause-runs g c =
-    let it = c.in-Err-park.ensures in
+pub returns-in-Err-let_wait-clause-runs : goal.returns-in-Err-let_wait-clause-runs
+returns-in-Err-let_wait-clause-runs g c =
+    let it = c.in-Err-let_wait.ensures in
     record {
       commits = [];
       runs =
-          rests g.D.Disk.files g.D.Disk.moment g.D.Disk.left_at g.D.Disk.failures g.D.Disk.refusals (IsTrue g.D.Disk.is_honest) c.stores_go_on.ensures.rest_leaves c.stores_go_on.ensures.gates_rest c.args.self.now c.park.new.self c.requires.working c.is_kept.ensures.kept
-          (handed_back c.args.self.now c.park.new.self c.args.task it.err it.refused.vault it.refused.in_doubt c.requires.working (c.is_kept.ensures.settled c.requires.working));
+          rests g.D.Disk c.stores_go_on.ensures.rest_leaves c.stores_go_on.ensures.gates_rest c.args.self.now c.let_wait.new.self c.requires.working c.is_kept.ensures.kept
+          (handed_back c.args.self.now c.let_wait.new.self c.args.task it.err it.refused.vault it.refused.in_doubt c.requires.working (c.is_kept.ensures.settled c.requires.working));
     }
 
 pub returns-in-Err-clause-runs : goal.returns-in-Err-clause-runs
 returns-in-Err-clause-runs g c = record {
   commits = [];
   runs =
-      rests g.D.Disk.files g.D.Disk.moment g.D.Disk.left_at g.D.Disk.failures g.D.Disk.refusals (IsTrue g.D.Disk.is_honest) c.stores_go_on.ensures.rest_leaves c.stores_go_on.ensures.gates_rest c.args.self.now c.release.new.self c.requires.working c.is_kept.ensures.kept
+      rests g.D.Disk c.stores_go_on.ensures.rest_leaves c.stores_go_on.ensures.gates_rest c.args.self.now c.release.new.self c.requires.working c.is_kept.ensures.kept
       (moved c.args.self.now c.release.new.self c.args.task _ c.release.ensures c.requires.working (c.is_kept.ensures.settled c.requires.working));
 }

@@ -4,7 +4,7 @@ use Rattle.commit.proofs.Driven.{Driven}
 use Rattle.commit.proofs.commit_core.Core.run_to_end.Given as goal
 
 abbrev pub invariant-loop-alloc : goal.invariant-loop-alloc
-invariant-loop-alloc g l = Driven g.D.Disk.files g.D.Disk.moment g.D.Disk.left_at g.D.Disk.failures g.D.Disk.refusals (IsTrue g.D.Disk.is_honest) l.graph l.fn.self l.self
+invariant-loop-alloc g l = Driven g.D.Disk l.graph l.fn.self l.self
 
 -- each instance that comes to wait is ready no more
 abbrev pub decreases-loop-alloc : goal.decreases-loop-alloc

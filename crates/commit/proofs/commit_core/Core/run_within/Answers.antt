@@ -15,7 +15,7 @@ returns-in-Ok-clause-runs g c _ =
     let allowed : c.allow.new.self ≡ with_allowance old c.args.limit = c.in-Ok.ensures.ok.1 ∙ ap (λ n. with_allowance old n) exact in
     let it = c.run_allowed-went.ensures.runs in
     let runs =
-    subst (λ (first : Core g.row.D.Denot). Runs g.D.Disk.files g.D.Disk.moment g.D.Disk.left_at g.D.Disk.failures g.D.Disk.refusals (IsTrue g.D.Disk.is_honest) first c.run_allowed-went.new.self it.commits) allowed it.runs
+    subst (λ (first : Core g.row.D.Denot). Runs g.D.Disk first c.run_allowed-went.new.self it.commits) allowed it.runs
     in
     let new = c.run_allowed-went.new.self in
     let begun_at = old.vault.journal.end in

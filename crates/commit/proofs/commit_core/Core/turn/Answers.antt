@@ -15,7 +15,7 @@ returns-in_default g c =
     let before : Core g.row.D.Denot = record { vault = c.self.inside.vault; machine = c.self.inside.machine; in_doubt = events_in c.self.inside.in_doubt; latest = events_in c.self.inside.latest; allowance = c.self.inside.allowance } in
     let m = before.machine in
     let working : is_halted before ≡ false = sym c.is_halted.ensures ∙ c.if-is_halted.false in
-    unlisted g.D.Disk.files g.D.Disk.moment g.D.Disk.left_at g.D.Disk.failures g.D.Disk.refusals (IsTrue g.D.Disk.is_honest) before c.args.self.now c.self.view_is working
+    unlisted g.D.Disk before c.args.self.now c.self.view_is working
     (λ honest.
     let holds = (c.self.invariant.1 honest).holds working in
     record {
@@ -28,7 +28,7 @@ returns-in_default-vec g c =
     let before : Core g.row.D.Denot = record { vault = c.self.inside.vault; machine = c.self.inside.machine; in_doubt = events_in c.self.inside.in_doubt; latest = events_in c.self.inside.latest; allowance = c.self.inside.allowance } in
     let m = before.machine in
     let working : is_halted before ≡ false = sym c.is_halted.ensures ∙ c.if-is_halted.false in
-    unlisted g.D.Disk.files g.D.Disk.moment g.D.Disk.left_at g.D.Disk.failures g.D.Disk.refusals (IsTrue g.D.Disk.is_honest) before c.args.self.now c.self.view_is working
+    unlisted g.D.Disk before c.args.self.now c.self.view_is working
     (λ honest.
     let holds = (c.self.invariant.1 honest).holds working in
     record {
@@ -68,9 +68,9 @@ returns g c =
     let working : is_halted before ≡ false = sym c.is_halted.ensures ∙ c.if-is_halted.false in
     let image : SpellsFacts c.in-Ok.source (environment_of m) (facts_of m) = (spells.image, (spells.is_image, spells.spelled), spells.lists) in
     let told : c.match-turned.result ≡ answer_of turned.result = elim c.match-turned.branch [ in-Ok-turned w ↦ w.result-is ∙ sym (ap answer_of w.in-Ok-turned.is) | in-Err w ↦ w.result-is ∙ sym (ap answer_of w.in-Err.is) ] in
-    subst (λ (r : Result ℕ CoreError). TurnsAs g.D.Disk.files g.D.Disk.moment g.D.Disk.left_at g.D.Disk.failures g.D.Disk.refusals (IsTrue g.D.Disk.is_honest) c.args.self.now new r) (sym told)
-    (subst (λ (old : Core g.row.D.Denot). TurnsAs g.D.Disk.files g.D.Disk.moment g.D.Disk.left_at g.D.Disk.failures g.D.Disk.refusals (IsTrue g.D.Disk.is_honest) old new (answer_of turned.result)) c.self.view_is
-    (either g.D.Disk.files g.D.Disk.moment g.D.Disk.left_at g.D.Disk.failures g.D.Disk.refusals (IsTrue g.D.Disk.is_honest) before.vault turned.new.self m before.in_doubt before.latest before.allowance spells.image spells.listed spells.lists working
+    subst (λ (r : Result ℕ CoreError). TurnsAs g.D.Disk c.args.self.now new r) (sym told)
+    (subst (λ (old : Core g.row.D.Denot). TurnsAs g.D.Disk old new (answer_of turned.result)) c.self.view_is
+    (either g.D.Disk before.vault turned.new.self m before.in_doubt before.latest before.allowance spells.image spells.listed spells.lists working
     c.in-Ok.source spells.spelled turned.result turned.ensures.over turned.ensures.written turned.ensures.full turned.ensures.halting c.self.invariant.1 (ap events_in (c.self.invariant.0 working))
     (λ honest.
     let holds = (c.self.invariant.1 honest).holds working in

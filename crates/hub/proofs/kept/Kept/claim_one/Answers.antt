@@ -12,7 +12,7 @@ use Rattle.hub.proofs.kept.Kept.claim_one.Goals as goal
 
 pub invariant_of-self : goal.invariant_of-self
 invariant_of-self g c =
-    kept_moved _ (ran_stays g.D.Disk.files g.D.Disk.moment g.D.Disk.left_at g.D.Disk.failures g.D.Disk.refusals (IsTrue g.D.Disk.is_honest) g.J.Naming.opening g.J.Naming.left g.J.Naming.envs) _ _ _ _ _ _ _ c.self.invariant c.release.ensures
+    kept_moved _ (ran_stays g.D.Disk g.J.Naming.opening g.J.Naming.left g.J.Naming.envs) _ _ _ _ _ _ _ c.self.invariant c.release.ensures
 
 -- the instance started, and is ready again
 pub returns-in-Err-add-clause-core : goal.returns-in-Err-add-clause-core

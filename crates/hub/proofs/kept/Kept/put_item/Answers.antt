@@ -18,24 +18,24 @@ pub invariant_of-self : goal.invariant_of-self
 invariant_of-self g c =
     subst (λ (d : Desk). IsKept (HasRun g.D.Disk.moment g.D.Disk.left_at g.D.Disk.failures g.D.Disk.refusals (IsTrue g.D.Disk.is_honest) g.J.Naming.opening g.J.Naming.left g.J.Naming.envs) g.J.Naming.opening g.J.Naming.passes d c.put_item.new.self) (sym c.record_item.ensures.desk)
     (kept_more c.facts_are_told_apart.ensures.among c.facts_go_on.ensures.all c.facts_go_on.ensures.environment _ _ _ c.args.pass.now.number _ _ _ _ c.self.invariant (comes_one _ _ _ c.in-Ok.ensures.commits.takes)
-    (ran_put g.D.Disk.files g.D.Disk.moment g.D.Disk.left_at g.D.Disk.failures g.D.Disk.refusals (IsTrue g.D.Disk.is_honest) g.J.Naming.opening g.J.Naming.left g.J.Naming.envs c.args.pass.now.number (commits c.self.inside.desk.book.history) _ c.self.inside.core c.put_item.new.self c.number.ensures.of_kind c.in-Ok.ensures.commits.takes.working.0 c.self.invariant.ran))
+    (ran_put g.D.Disk g.J.Naming.opening g.J.Naming.left g.J.Naming.envs c.args.pass.now.number (commits c.self.inside.desk.book.history) _ c.self.inside.core c.put_item.new.self c.number.ensures.of_kind c.in-Ok.ensures.commits.takes.working.0 c.self.invariant.ran))
 
 pub invariant_of-self-in-Err : goal.invariant_of-self-in-Err
 invariant_of-self-in-Err g c =
     subst (λ (d : Desk). IsKept (HasRun g.D.Disk.moment g.D.Disk.left_at g.D.Disk.failures g.D.Disk.refusals (IsTrue g.D.Disk.is_honest) g.J.Naming.opening g.J.Naming.left g.J.Naming.envs) g.J.Naming.opening g.J.Naming.passes d c.put_item.new.self) (sym c.show.ensures.desk)
     (kept_refused g.D.Disk.failures g.D.Disk.refusals _ _ _ _ _ _ _ c.in-Err.error c.self.invariant c.in-Err.ensures.unchanged.stays c.in-Err.ensures.halts c.in-Err.ensures.commits.doubt
-    (ran_refused_put g.D.Disk.files g.D.Disk.moment g.D.Disk.left_at g.D.Disk.failures g.D.Disk.refusals (IsTrue g.D.Disk.is_honest) g.J.Naming.opening g.J.Naming.left g.J.Naming.envs c.args.pass.now.number (commits c.self.inside.desk.book.history) c.self.inside.core c.put_item.new.self c.in-Err.error c.number.ensures.of_kind c.in-Err.ensures.halts c.self.invariant.ran))
+    (ran_refused_put g.D.Disk g.J.Naming.opening g.J.Naming.left g.J.Naming.envs c.args.pass.now.number (commits c.self.inside.desk.book.history) c.self.inside.core c.put_item.new.self c.in-Err.error c.number.ensures.of_kind c.in-Err.ensures.halts c.self.invariant.ran))
 
 pub returns-in-Ok-clause-core : goal.returns-in-Ok-clause-core
 returns-in-Ok-clause-core g c =
-    commits_as g.D.Disk.files g.D.Disk.moment g.D.Disk.left_at g.D.Disk.failures g.D.Disk.refusals (IsTrue g.D.Disk.is_honest) c.self.inside.core c.args.self.now.core c.put_item.new.self
+    commits_as g.D.Disk c.self.inside.core c.args.self.now.core c.put_item.new.self
     (λ (core : Core g.row.D.Denot). RefusesItem (graph core) (facts core) c.args.addr) (EnvItem c.args.addr (to_z w64 (of_z w64 c.args.value))) (EnvItem c.args.addr c.args.value) (Ok tt)
     (ap (λ (kept : Kept g.row.D.Denot). kept.core) c.self.view_is) (ap (EnvItem c.args.addr) (to_z-of_z w64 c.args.value c.ranges.value))
     c.in-Ok.ensures
 
 pub returns-in-Err-clause-core : goal.returns-in-Err-clause-core
 returns-in-Err-clause-core g c =
-    commits_as g.D.Disk.files g.D.Disk.moment g.D.Disk.left_at g.D.Disk.failures g.D.Disk.refusals (IsTrue g.D.Disk.is_honest) c.self.inside.core c.args.self.now.core c.put_item.new.self
+    commits_as g.D.Disk c.self.inside.core c.args.self.now.core c.put_item.new.self
     (λ (core : Core g.row.D.Denot). RefusesItem (graph core) (facts core) c.args.addr) (EnvItem c.args.addr (to_z w64 (of_z w64 c.args.value))) (EnvItem c.args.addr c.args.value) (Err c.in-Err.error)
     (ap (λ (kept : Kept g.row.D.Denot). kept.core) c.self.view_is) (ap (EnvItem c.args.addr) (to_z-of_z w64 c.args.value c.ranges.value))
     c.in-Err.ensures

@@ -5,4 +5,4 @@ use Rattle.hub.proofs.kept.Kept.wake.Goals as goal
 
 pub invariant_of-self : goal.invariant_of-self
 invariant_of-self g c =
-    kept_woken _ (ran_stays g.D.Disk.files g.D.Disk.moment g.D.Disk.left_at g.D.Disk.failures g.D.Disk.refusals (IsTrue g.D.Disk.is_honest) g.J.Naming.opening g.J.Naming.left g.J.Naming.envs) _ _ _ _ _ _ c.self.invariant c.wake.ensures
+    kept_woken _ (ran_stays g.D.Disk g.J.Naming.opening g.J.Naming.left g.J.Naming.envs) _ _ _ _ _ _ c.self.invariant c.wake.ensures

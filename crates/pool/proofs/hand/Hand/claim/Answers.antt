@@ -1,15 +1,19 @@
+use Rattle.pool.proofs.Hands.{hand_with}
 use Rattle.pool.proofs.Kept.{claimed_more, first_taken}
 use Rattle.pool.proofs.hand.Hand.claim.Goals as goal
 
-pub returns-in-Ok-clause-claimed : goal.returns-in-Ok-clause-claimed
-returns-in-Ok-clause-claimed g c =
+pub returns-in-Ok-clause-hand : goal.returns-in-Ok-clause-hand
+returns-in-Ok-clause-hand g c =
+    hand_with g.J.Naming.opening c.args.pass.now.seen c.claim_some.new.pass.seen c.args.self.now.claimed c.take_first.new.self c.args.self.now.waiting c.claim_some.ensures.seen.0.starts c.requires
     (first_taken g.J.Naming.opening c.take_first.result c.claim_some.new.tasks c.take_first.new.self c.take_first.ensures
-    (claimed_more g.J.Naming.opening c.claim_some.new.pass c.args.most c.args.self.now.claimed c.claim_some.new.tasks c.claim_some.ensures.claimed c.requires)).0
+    (claimed_more g.J.Naming.opening c.claim_some.new.pass c.args.most c.args.self.now.claimed c.claim_some.new.tasks c.claim_some.ensures.claimed c.requires.claimed)).0
 
 pub returns-in-Ok-clause-task : goal.returns-in-Ok-clause-task
 returns-in-Ok-clause-task g c =
     (first_taken g.J.Naming.opening c.take_first.result c.claim_some.new.tasks c.take_first.new.self c.take_first.ensures
-    (claimed_more g.J.Naming.opening c.claim_some.new.pass c.args.most c.args.self.now.claimed c.claim_some.new.tasks c.claim_some.ensures.claimed c.requires)).1
+    (claimed_more g.J.Naming.opening c.claim_some.new.pass c.args.most c.args.self.now.claimed c.claim_some.new.tasks c.claim_some.ensures.claimed c.requires.claimed)).1
 
-pub returns-in-Err-clause-claimed : goal.returns-in-Err-clause-claimed
-returns-in-Err-clause-claimed g c = claimed_more g.J.Naming.opening c.claim_some.new.pass c.args.most c.args.self.now.claimed c.claim_some.new.tasks c.claim_some.ensures.claimed c.requires
+pub returns-in-Err-clause-hand : goal.returns-in-Err-clause-hand
+returns-in-Err-clause-hand g c =
+    hand_with g.J.Naming.opening c.args.pass.now.seen c.claim_some.new.pass.seen c.args.self.now.claimed c.claim_some.new.tasks c.args.self.now.waiting c.claim_some.ensures.seen.0.starts c.requires
+    (claimed_more g.J.Naming.opening c.claim_some.new.pass c.args.most c.args.self.now.claimed c.claim_some.new.tasks c.claim_some.ensures.claimed c.requires.claimed)

@@ -1,4 +1,4 @@
-use Rattle.std.proofs.Common.{◌-◌, ◌≤◌, IsTrue, length, take}
+use Rattle.std.proofs.Common.{◌-◌, ◌≤◌, length, take}
 use Rattle.std.specs.List.{AllByRecursion}
 use Rattle.commit.specs.Runs.{NoneRuns}
 use Rattle.session.specs.Progress.{KeepsStanding}
@@ -9,7 +9,7 @@ use Rattle.session.proofs.progress.Progress.put_row.Given as goal
 abbrev pub invariant-groups : goal.invariant-groups
 invariant-groups g l = record {
   idle : NoneRuns l.core;
-  stands : KeepsStanding g.D.Disk.files g.D.Disk.moment g.D.Disk.left_at g.D.Disk.failures g.D.Disk.refusals (IsTrue g.D.Disk.is_honest) g.O.Sink.target g.O.Sink.has_failed g.O.Sink.contents l.fn.self l.self l.fn.out l.out l.fn.core l.core;
+  stands : KeepsStanding g.D.Disk g.O.Sink.target g.O.Sink.has_failed g.O.Sink.contents l.fn.self l.self l.fn.out l.out l.fn.core l.core;
   fewer : length l.self.left.now ≤ length l.fn.self.left.now;
   puts : AllByRecursion Puts (take (length l.self.left.now - l.behind) l.self.left.now);
 }

@@ -1,4 +1,4 @@
-use Rattle.std.proofs.Common.{◌≤◌, IsTrue, length}
+use Rattle.std.proofs.Common.{◌≤◌, length}
 use Rattle.commit.specs.Runs.{NoneRuns}
 use Rattle.session.specs.Progress.{KeepsStanding}
 use Rattle.session.proofs.progress.Progress.reach_run.Given as goal
@@ -7,7 +7,7 @@ use Rattle.session.proofs.progress.Progress.reach_run.Given as goal
 abbrev pub invariant-lines : goal.invariant-lines
 invariant-lines g l = record {
   idle : NoneRuns l.core;
-  stands : KeepsStanding g.D.Disk.files g.D.Disk.moment g.D.Disk.left_at g.D.Disk.failures g.D.Disk.refusals (IsTrue g.D.Disk.is_honest) g.O.Sink.target g.O.Sink.has_failed g.O.Sink.contents l.fn.self l.self l.fn.out l.out l.fn.core l.core;
+  stands : KeepsStanding g.D.Disk g.O.Sink.target g.O.Sink.has_failed g.O.Sink.contents l.fn.self l.self l.fn.out l.out l.fn.core l.core;
   fewer : length l.self.left.now ≤ length l.fn.self.left.now;
 }
 

@@ -3,9 +3,12 @@ use Rattle.steptree.specs.Run.{Read}
 use Rattle.steplang.specs.Machine.{outcome_from, left_of}
 use Rattle.steplang.proofs.machine.Machine.go.Given as goal
 
--- the outcome that is still to come stays the same
-abbrev pub invariant-loop-stopped : goal.invariant-loop-stopped
-invariant-loop-stopped l = (reads : List Read) → outcome_from l.fn.self reads ≡ outcome_from l.self reads
+-- the outcome that is still to come stays the same, and the code does too
+abbrev pub invariant-steps : goal.invariant-steps
+invariant-steps l = record {
+  same : (reads : List Read) → outcome_from l.fn.self l.fn.self.progress reads ≡ outcome_from l.self l.progress reads;
+  code : l.code ≡ l.self.code.now;
+}
 
-abbrev pub decreases-loop-stopped : goal.decreases-loop-stopped
-decreases-loop-stopped l = left_of l.self
+abbrev pub decreases-steps : goal.decreases-steps
+decreases-steps l = left_of l.self l.progress

@@ -1,54 +1,60 @@
-use Rattle.std.proofs.Common.{ℤ, pos, List, if◌then◌else◌, rules, sym, ap, ◌∙◌}
-use Rattle.std.specs.Ordering.{int_eq}
-use Rattle.std.specs.Int.{int_gap}
-use Rattle.terms.specs.declared.put.Put.TheVariants as put
-use Rattle.steptree.specs.Run.{Read, State, given, followed, answered, assigned, putting, turns, run}
-use Rattle.steptree.specs.SeenBlocks.{block_seen}
-use Rattle.steptree.specs.Values.{value_of, values_of}
-use Rattle.steplang.proofs.Counted.{made, overspent}
+use Rattle.std.proofs.Common.{refl, ap, ◌∙◌}
+use Rattle.std.specs.Prelude.{Some}
+use Rattle.steptree.specs.declared.code.Instruction.TheVariants as instruction
+use Rattle.steptree.specs.Compiled.{Stands}
+use Rattle.steplang.proofs.Counted.{ended, made, overspent}
 use Rattle.steplang.proofs.Leads.{leads, ok_leads}
 use Rattle.steplang.proofs.machine.Machine.step.Goals as goal
 
+pub returns-in-End-clause-leads : goal.returns-in-End-clause-leads
+returns-in-End-clause-leads c =
+    let there : Stands c.args.self.now.code.now c.args.progress.now.at instruction.End = c.requires.stands ∙ ap Some c.in-End.is in
+    λ reads. ended c.args.self.now.code.now (Some instruction.End) _ _ c.args.progress.now.at _ there (λ onward out. refl)
+
 pub returns-then-not-count-clause-leads : goal.returns-then-not-count-clause-leads
-returns-then-not-count-clause-leads c = overspent c.args.self.now c.count.result c.count.ensures.counted c.if-not-count.true (search rules)
+returns-then-not-count-clause-leads c =
+    let one = instruction.For c.in-For.variable c.in-For.from c.in-For.to c.in-For.turn c.in-For.begin c.in-For.after in
+    let there : Stands c.args.self.now.code.now c.args.progress.now.at one = c.requires.stands ∙ ap Some c.in-For.is in
+    overspent c.args.self.now c.args.progress.now c.count.new.self c.count.result c.count.ensures.counted one there (λ state onward out. refl) c.if-not-count.true
 
-pub returns-in-Assign-clause-leads : goal.returns-in-Assign-clause-leads
-returns-in-Assign-clause-leads c =
-    let counted = made c.args.self.now c.count.new.self c.count.result c.count.ensures.counted c.if-not-count.false c.count.ensures.one in
-    let next = λ (now : State). given (value_of c.in-Assign.value now.variables) now (λ (v : ℤ). run c.deref.result.now (assigned c.in-Assign.variable v now)) in
-    leads _ _ (counted _ (sym c.block.view_is ∙ ap block_seen c.in-Assign.is) next (λ state. search rules)) _ c.assign.result c.assign.ensures.leads
+pub returns-else-not-count-clause-leads : goal.returns-else-not-count-clause-leads
+returns-else-not-count-clause-leads c =
+    let one = instruction.For c.in-For.variable c.in-For.from c.in-For.to c.in-For.turn c.in-For.begin c.in-For.after in
+    let there : Stands c.args.self.now.code.now c.args.progress.now.at one = c.requires.stands ∙ ap Some c.in-For.is in
+    ok_leads _ _ (made c.args.self.now c.args.progress.now c.count.new.self c.count.result c.count.ensures.counted one there (λ state onward out. refl) c.if-not-count.false c.count.ensures.one) _ _ c.open.result c.open.ensures.leads
 
-pub returns-in-If-clause-leads : goal.returns-in-If-clause-leads
-returns-in-If-clause-leads c =
-    let counted = made c.args.self.now c.count.new.self c.count.result c.count.ensures.counted c.if-not-count.false c.count.ensures.one in
-    let next = λ (now : State). given (value_of c.in-If.condition now.variables) now (λ (v : ℤ).
-    followed (if int_eq v (pos 0) then run c.deref-in-If-2.result.now now else run c.deref-in-If.result.now now) (run c.deref-in-If-3.result.now)) in
-    ok_leads _ _ (counted _ (sym c.block.view_is ∙ ap block_seen c.in-If.is) next (λ state. search rules)) _ c.choose.result c.choose.ensures.leads
+pub returns-then-not-count-2-clause-leads : goal.returns-then-not-count-2-clause-leads
+returns-then-not-count-2-clause-leads c =
+    let one = instruction.Get c.in-Get.variable c.in-Get.collection c.in-Get.components c.in-Get.next in
+    let there : Stands c.args.self.now.code.now c.args.progress.now.at one = c.requires.stands ∙ ap Some c.in-Get.is in
+    overspent c.args.self.now c.args.progress.now c.count-in-Get.new.self c.count-in-Get.result c.count-in-Get.ensures.counted one there (λ state onward out. refl) c.if-not-count-2.true
 
-pub returns-in-For-clause-leads : goal.returns-in-For-clause-leads
-returns-in-For-clause-leads c =
-    let counted = made c.args.self.now c.count.new.self c.count.result c.count.ensures.counted c.if-not-count.false c.count.ensures.one in
-    let next = λ (now : State). given (value_of c.in-For.from now.variables) now (λ (a : ℤ). given (value_of c.in-For.to now.variables) now (λ (b : ℤ).
-    followed (turns (run c.deref-in-For.result.now) c.in-For.variable a (int_gap a b) now) (run c.deref-in-For-2.result.now))) in
-    ok_leads _ _ (counted _ (sym c.block.view_is ∙ ap block_seen c.in-For.is) next (λ state. simp (c.deref-in-For.ensures, c.deref-in-For-2.ensures))) _ c.repeat.result c.repeat.ensures.leads
+pub returns-else-not-count-2-clause-leads : goal.returns-else-not-count-2-clause-leads
+returns-else-not-count-2-clause-leads c =
+    let one = instruction.Get c.in-Get.variable c.in-Get.collection c.in-Get.components c.in-Get.next in
+    let there : Stands c.args.self.now.code.now c.args.progress.now.at one = c.requires.stands ∙ ap Some c.in-Get.is in
+    leads _ _ (made c.args.self.now c.args.progress.now c.count-in-Get.new.self c.count-in-Get.result c.count-in-Get.ensures.counted one there (λ state onward out. refl) c.if-not-count-2.false c.count-in-Get.ensures.one) _ _ c.get.result c.get.ensures.leads
 
-pub returns-in-Get-clause-leads : goal.returns-in-Get-clause-leads
-returns-in-Get-clause-leads c =
-    let counted = made c.args.self.now c.count.new.self c.count.result c.count.ensures.counted c.if-not-count.false c.count.ensures.one in
-    let next = λ (now : State). given (values_of c.in-Get.components now.variables) now (λ (key : List ℤ). answered (record { collection = c.in-Get.collection; key = key }) now.reads
-    (λ (v : ℤ) (left : List Read). run c.deref-in-Get.result.now (assigned c.in-Get.variable v (record now { reads = left })))) in
-    leads _ _ (counted _ (sym c.block.view_is ∙ ap block_seen c.in-Get.is) next (λ state. search rules)) _ c.get.result c.get.ensures.leads
+pub returns-then-not-count-3-clause-leads : goal.returns-then-not-count-3-clause-leads
+returns-then-not-count-3-clause-leads c =
+    let one = instruction.PutItem c.in-PutItem.collection c.in-PutItem.components c.in-PutItem.value c.in-PutItem.next in
+    let there : Stands c.args.self.now.code.now c.args.progress.now.at one = c.requires.stands ∙ ap Some c.in-PutItem.is in
+    overspent c.args.self.now c.args.progress.now c.count-in-PutItem.new.self c.count-in-PutItem.result c.count-in-PutItem.ensures.counted one there (λ state onward out. refl) c.if-not-count-3.true
 
-pub returns-in-PutItem-clause-leads : goal.returns-in-PutItem-clause-leads
-returns-in-PutItem-clause-leads c =
-    let counted = made c.args.self.now c.count.new.self c.count.result c.count.ensures.counted c.if-not-count.false c.count.ensures.one in
-    let next = λ (now : State). given (values_of c.in-PutItem.components now.variables) now (λ (key : List ℤ). given (value_of c.in-PutItem.value now.variables) now (λ (v : ℤ).
-    putting (put.Item (record { collection = c.in-PutItem.collection; key = key }) v) now (run c.deref-in-PutItem.result.now))) in
-    ok_leads _ _ (counted _ (sym c.block.view_is ∙ ap block_seen c.in-PutItem.is) next (λ state. search rules)) _ c.put_item.result c.put_item.ensures.leads
+pub returns-else-not-count-3-clause-leads : goal.returns-else-not-count-3-clause-leads
+returns-else-not-count-3-clause-leads c =
+    let one = instruction.PutItem c.in-PutItem.collection c.in-PutItem.components c.in-PutItem.value c.in-PutItem.next in
+    let there : Stands c.args.self.now.code.now c.args.progress.now.at one = c.requires.stands ∙ ap Some c.in-PutItem.is in
+    ok_leads _ _ (made c.args.self.now c.args.progress.now c.count-in-PutItem.new.self c.count-in-PutItem.result c.count-in-PutItem.ensures.counted one there (λ state onward out. refl) c.if-not-count-3.false c.count-in-PutItem.ensures.one) _ _ c.put_item.result c.put_item.ensures.leads
 
-pub returns-in-PutTag-clause-leads : goal.returns-in-PutTag-clause-leads
-returns-in-PutTag-clause-leads c =
-    let counted = made c.args.self.now c.count.new.self c.count.result c.count.ensures.counted c.if-not-count.false c.count.ensures.one in
-    let next = λ (now : State). given (values_of c.in-PutTag.components now.variables) now (λ (key : List ℤ).
-    putting (put.Tag (record { collection = c.in-PutTag.collection; key = key })) now (run c.deref-in-PutTag.result.now)) in
-    ok_leads _ _ (counted _ (sym c.block.view_is ∙ ap block_seen c.in-PutTag.is) next (λ state. search rules)) _ c.put_tag.result c.put_tag.ensures.leads
+pub returns-then-not-count-4-clause-leads : goal.returns-then-not-count-4-clause-leads
+returns-then-not-count-4-clause-leads c =
+    let one = instruction.PutTag c.in-PutTag.collection c.in-PutTag.components c.in-PutTag.next in
+    let there : Stands c.args.self.now.code.now c.args.progress.now.at one = c.requires.stands ∙ ap Some c.in-PutTag.is in
+    overspent c.args.self.now c.args.progress.now c.count-in-PutTag.new.self c.count-in-PutTag.result c.count-in-PutTag.ensures.counted one there (λ state onward out. refl) c.if-not-count-4.true
+
+pub returns-else-not-count-4-clause-leads : goal.returns-else-not-count-4-clause-leads
+returns-else-not-count-4-clause-leads c =
+    let one = instruction.PutTag c.in-PutTag.collection c.in-PutTag.components c.in-PutTag.next in
+    let there : Stands c.args.self.now.code.now c.args.progress.now.at one = c.requires.stands ∙ ap Some c.in-PutTag.is in
+    ok_leads _ _ (made c.args.self.now c.args.progress.now c.count-in-PutTag.new.self c.count-in-PutTag.result c.count-in-PutTag.ensures.counted one there (λ state onward out. refl) c.if-not-count-4.false c.count-in-PutTag.ensures.one) _ _ c.put_tag.result c.put_tag.ensures.leads

@@ -1,0 +1,77 @@
+-- The code of blocks, as instructions are added after it.
+use Rattle.std.proofs.Common.{◌≡◌, ◌+◌, ◌<◌, ◌≤◌, ℕ, zero, suc, List, [], ◌∷◌, ◌++◌, length, refl, sym, ap, subst, ◌∙◌, arith}
+use Rattle.std.specs.Borrow.{Bor}
+use Rattle.std.specs.Prelude.{Some, slice_get}
+use Rattle.steptree.specs.declared.block.Block.{Block}
+use Rattle.steptree.specs.declared.code.Formula.{Formula}
+use Rattle.steptree.specs.declared.code.Instruction.{Instruction}
+use Rattle.steptree.specs.Tree.{End, Assign, If, For, Get, PutItem, PutTag, block_size}
+use Rattle.steptree.specs.Executed.{expression_of}
+use Rattle.steptree.specs.Compiled.{Stands, IsCode, Keeps, remainder}
+
+-- the last of a list stands at the length of the others
+stands_after : (code : List Instruction) (one : Instruction) → Stands (code ++ one ∷ []) (length code) one
+stands_after [] one = refl
+stands_after (first ∷ others) one = stands_after others one
+
+pub stands_last : (old new : List Instruction) (one : Instruction) (at : ℕ) → new ≡ old ++ one ∷ [] → at ≡ length old → Stands new at one
+stands_last old new one at pushed is =
+    subst (λ (l : List Instruction). Stands l at one) (sym pushed) (subst (λ (n : ℕ). Stands (old ++ one ∷ []) n one) (sym is) (stands_after old one))
+
+keeps_after : (code : List Instruction) (last : Instruction) → Keeps code (code ++ last ∷ [])
+keeps_after [] last at one stands = cc
+keeps_after (first ∷ others) last zero one stands = stands
+keeps_after (first ∷ others) last (suc at) one stands = keeps_after others last at one stands
+
+pub keeps_more : (old new : List Instruction) (last : Instruction) → new ≡ old ++ last ∷ [] → Keeps old new
+keeps_more old new last pushed at one stands = subst (λ (l : List Instruction). Stands l at one) (sym pushed) (keeps_after old last at one stands)
+
+pub keeps_on : (old middle new : List Instruction) → Keeps old middle → Keeps middle new → Keeps old new
+keeps_on old middle new first second at one stands = second at one (first at one stands)
+
+-- the code of a block stays its code
+pub stays : (old new : List Instruction) → Keeps old new → (at : ℕ) (block : Block) (stop : ℕ) → IsCode old at block stop → IsCode new at block stop
+stays old new keeps at End stop is = is
+stays old new keeps at (Assign variable value rest) stop is =
+    (is.0, is.1, keeps at _ is.2, is.3, stays old new keeps is.1 rest stop is.4)
+stays old new keeps at (If condition first second rest) stop is =
+    (is.0, is.1, is.2, is.3, keeps at _ is.4, is.5, stays old new keeps is.1 first is.3 is.6, stays old new keeps is.2 second is.3 is.7, stays old new keeps is.3 rest stop is.8)
+stays old new keeps at (For variable from to block rest) stop is =
+    (is.0, is.1, is.2, keeps at _ is.3, keeps is.0 _ is.4, stays old new keeps is.1 block is.0 is.5, stays old new keeps is.2 rest stop is.6)
+stays old new keeps at (Get variable collection components rest) stop is =
+    (is.0, keeps at _ is.1, stays old new keeps is.0 rest stop is.2)
+stays old new keeps at (PutItem collection components value rest) stop is =
+    (is.0, keeps at _ is.1, stays old new keeps is.0 rest stop is.2)
+stays old new keeps at (PutTag collection components rest) stop is =
+    (is.0, keeps at _ is.1, stays old new keeps is.0 rest stop is.2)
+
+-- the blocks that begin at the first statements of a block, one after another, and what is left of it
+abbrev pub IsChain : Block → List (Bor Block) → Block → Type 0
+IsChain block [] left = block ≡ left
+IsChain block (first ∷ others) left = (first.now ≡ block) × IsChain (remainder block) others left
+
+pub chain_more : (block : Block) (blocks : List (Bor Block)) (last : Bor Block) (left : Block) → IsChain block blocks last.now → remainder last.now ≡ left → IsChain block (blocks ++ last ∷ []) left
+chain_more block [] last left chain is = (sym chain, ap remainder chain ∙ is)
+chain_more block (first ∷ others) last left chain is = (chain.0, chain_more (remainder block) others last left chain.1 is)
+
+no_larger : (block : Block) → block_size (remainder block) ≤ block_size block
+no_larger End = omega arith
+no_larger (Assign variable value rest) = omega arith
+no_larger (If condition first second rest) = omega arith
+no_larger (For variable from to block rest) = omega arith
+no_larger (Get variable collection components rest) = omega arith
+no_larger (PutItem collection components value rest) = omega arith
+no_larger (PutTag collection components rest) = omega arith
+
+-- what a chain says of its last block
+pub record EndsIn (block : Block) (blocks : List (Bor Block)) (last : Bor Block) (left : Block) : Type 0 where
+  pub chain : IsChain block blocks last.now
+  pub next : remainder last.now ≡ left
+  pub smaller : block_size last.now ≤ block_size block
+
+pub chain_last : (block : Block) (blocks : List (Bor Block)) (last : Bor Block) (left : Block) → IsChain block (blocks ++ last ∷ []) left → EndsIn block blocks last left
+chain_last block [] last left chain =
+    record { chain = sym chain.0; next = ap remainder chain.0 ∙ chain.1; smaller = omega (arith, ap block_size chain.0) }
+chain_last block (first ∷ others) last left chain =
+    let inner = chain_last (remainder block) others last left chain.1 in
+    record { chain = (chain.0, inner.chain); next = inner.next; smaller = omega (arith, inner.smaller, no_larger block) }

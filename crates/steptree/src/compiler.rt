@@ -1,0 +1,289 @@
+//! Makes bodies into code.
+//!
+//! Statements are compiled from the last to the first, so that each knows the place where it goes on.
+ghost use Rattle.std.specs.Prelude.{◌≡◌, ◌<◌, ℕ, IfOk, MatchOption};
+ghost use Rattle.steptree.specs.declared.block.Block.{Block};
+ghost use Rattle.steptree.specs.Tree.{End, block_size};
+ghost use Rattle.steptree.specs.Tree as tree;
+ghost use Rattle.steptree.specs.Executed.{Performs};
+ghost use Rattle.steptree.specs.Compiled.{Stands, IsCode, Keeps, remainder};
+
+mod formulas;
+
+use crate::{Block, Body, Code, Components, Expression, Instruction, Slot, Statement};
+use formulas::{copied, copied_components, formula};
+use std::alloc::{AllocError, Global};
+use terms::{ItemCollection, TagCollection};
+
+/// The code of a body.
+pub(crate) fn compile(alloc: Global, body: &Body) -> Result<Code, AllocError>
+    ensures { IfOk result (λ code. Performs code body.now) }
+{
+    let mut instructions = Vec::new(alloc);
+    let end = push(&mut instructions, Instruction::End)?;
+    let middle = compile_block(alloc, &mut instructions, &body.write, end)?;
+    let start = compile_block(alloc, &mut instructions, &body.read, middle)?;
+    Ok(Code {
+        instructions,
+        start,
+    })
+}
+
+// The statements after the first, unless there is none.
+fn rest_of(block: &Block) -> Option<&Block>
+    ensures { MatchOption result (block.now ≡ End) (λ rest. (rest.now ≡ remainder block.now) × (block_size rest.now < block_size block.now)) }
+{
+    match &block.first {
+        Statement::End => None,
+        Statement::Assign { rest, .. } => Some(rest),
+        Statement::If { rest, .. } => Some(rest),
+        Statement::For { rest, .. } => Some(rest),
+        Statement::Get { rest, .. } => Some(rest),
+        Statement::PutItem { rest, .. } => Some(rest),
+        Statement::PutTag { rest, .. } => Some(rest),
+    }
+}
+
+// Adds the code of a block that goes on at `stop`. The result is the place where it begins.
+#[cycle(compile)]
+fn compile_block(
+    alloc: Global,
+    code: &mut Vec<Instruction>,
+    block: &Block,
+    stop: usize,
+) -> Result<usize, AllocError>
+    ensures code { IfOk result (λ at. IsCode code.new.items at block.now stop) }
+    ensures keeps { IfOk result (λ at. Keeps code.old.items code.new.items) }
+{
+    let mut blocks = Vec::new(alloc);
+    let mut left = block;
+    while let Some(rest) = rest_of(left) {
+        blocks.reserve(1)?;
+        blocks.push_reserved(left);
+        left = rest;
+    }
+    let mut at = stop;
+    while let Some(last) = blocks.pop() {
+        at = compile_first(alloc, code, last, at)?;
+    }
+    Ok(at)
+}
+
+// Adds the code of the first statement of a block, whose other statements have their code at `next`.
+#[cycle(compile)]
+fn compile_first(
+    alloc: Global,
+    code: &mut Vec<Instruction>,
+    block: &Block,
+    next: usize,
+) -> Result<usize, AllocError>
+    ensures code { IfOk result (λ at. (stop : ℕ) → IsCode code.old.items next (remainder block.now) stop → IsCode code.new.items at block.now stop) }
+    ensures keeps { IfOk result (λ at. Keeps code.old.items code.new.items) }
+{
+    match &block.first {
+        Statement::End => Ok(next),
+        Statement::Assign {
+            variable,
+            value,
+            ..
+        } => assign(alloc, code, *variable, value, next),
+        Statement::If {
+            condition,
+            first,
+            second,
+            ..
+        } => choose(alloc, code, condition, first, second, next),
+        Statement::For {
+            variable,
+            from,
+            to,
+            block,
+            ..
+        } => repeat(alloc, code, *variable, from, to, block, next),
+        Statement::Get {
+            variable,
+            collection,
+            components,
+            ..
+        } => get(alloc, code, *variable, *collection, components, next),
+        Statement::PutItem {
+            collection,
+            components,
+            value,
+            ..
+        } => put_item(alloc, code, *collection, components, value, next),
+        Statement::PutTag {
+            collection,
+            components,
+            ..
+        } => put_tag(alloc, code, *collection, components, next),
+    }
+}
+
+// Adds an assignment.
+fn assign(
+    alloc: Global,
+    code: &mut Vec<Instruction>,
+    variable: Slot,
+    value: &Expression,
+    next: usize,
+) -> Result<usize, AllocError>
+    ensures code { IfOk result (λ at. (rest : Block) (stop : ℕ) → IsCode code.old.items next rest stop → IsCode code.new.items at (tree.Assign variable value.now rest) stop) }
+    ensures keeps { IfOk result (λ at. Keeps code.old.items code.new.items) }
+{
+    let value = formula(alloc, value)?;
+    let at = push(
+        code,
+        Instruction::Assign {
+            variable,
+            value,
+            next,
+        },
+    )?;
+    Ok(at)
+}
+
+// Adds a choice between two blocks.
+#[cycle(compile)]
+fn choose(
+    alloc: Global,
+    code: &mut Vec<Instruction>,
+    condition: &Expression,
+    first: &Block,
+    second: &Block,
+    next: usize,
+) -> Result<usize, AllocError>
+    ensures code { IfOk result (λ at. (rest : Block) (stop : ℕ) → IsCode code.old.items next rest stop → IsCode code.new.items at (tree.If condition.now first.now second.now rest) stop) }
+    ensures keeps { IfOk result (λ at. Keeps code.old.items code.new.items) }
+{
+    let first = compile_block(alloc, code, first, next)?;
+    let second = compile_block(alloc, code, second, next)?;
+    let condition = formula(alloc, condition)?;
+    let at = push(
+        code,
+        Instruction::Branch {
+            condition,
+            first,
+            second,
+        },
+    )?;
+    Ok(at)
+}
+
+// Adds a loop.
+#[cycle(compile)]
+fn repeat(
+    alloc: Global,
+    code: &mut Vec<Instruction>,
+    variable: Slot,
+    from: &Expression,
+    to: &Expression,
+    block: &Block,
+    after: usize,
+) -> Result<usize, AllocError>
+    ensures code { IfOk result (λ at. (rest : Block) (stop : ℕ) → IsCode code.old.items after rest stop → IsCode code.new.items at (tree.For variable from.now to.now block.now rest) stop) }
+    ensures keeps { IfOk result (λ at. Keeps code.old.items code.new.items) }
+{
+    let turn = push(code, Instruction::Turn)?;
+    let begin = compile_block(alloc, code, block, turn)?;
+    let from = copied(alloc, from)?;
+    let to = copied(alloc, to)?;
+    let at = push(
+        code,
+        Instruction::For {
+            variable,
+            from,
+            to,
+            turn,
+            begin,
+            after,
+        },
+    )?;
+    Ok(at)
+}
+
+// Adds a read of an item.
+fn get(
+    alloc: Global,
+    code: &mut Vec<Instruction>,
+    variable: Slot,
+    collection: ItemCollection,
+    components: &Components,
+    next: usize,
+) -> Result<usize, AllocError>
+    ensures code { IfOk result (λ at. (rest : Block) (stop : ℕ) → IsCode code.old.items next rest stop → IsCode code.new.items at (tree.Get variable collection components.now rest) stop) }
+    ensures keeps { IfOk result (λ at. Keeps code.old.items code.new.items) }
+{
+    let components = copied_components(alloc, components)?;
+    let at = push(
+        code,
+        Instruction::Get {
+            variable,
+            collection,
+            components,
+            next,
+        },
+    )?;
+    Ok(at)
+}
+
+// Adds a put of an item.
+fn put_item(
+    alloc: Global,
+    code: &mut Vec<Instruction>,
+    collection: ItemCollection,
+    components: &Components,
+    value: &Expression,
+    next: usize,
+) -> Result<usize, AllocError>
+    ensures code { IfOk result (λ at. (rest : Block) (stop : ℕ) → IsCode code.old.items next rest stop → IsCode code.new.items at (tree.PutItem collection components.now value.now rest) stop) }
+    ensures keeps { IfOk result (λ at. Keeps code.old.items code.new.items) }
+{
+    let components = copied_components(alloc, components)?;
+    let value = copied(alloc, value)?;
+    let at = push(
+        code,
+        Instruction::PutItem {
+            collection,
+            components,
+            value,
+            next,
+        },
+    )?;
+    Ok(at)
+}
+
+// Adds a put of a tag.
+fn put_tag(
+    alloc: Global,
+    code: &mut Vec<Instruction>,
+    collection: TagCollection,
+    components: &Components,
+    next: usize,
+) -> Result<usize, AllocError>
+    ensures code { IfOk result (λ at. (rest : Block) (stop : ℕ) → IsCode code.old.items next rest stop → IsCode code.new.items at (tree.PutTag collection components.now rest) stop) }
+    ensures keeps { IfOk result (λ at. Keeps code.old.items code.new.items) }
+{
+    let components = copied_components(alloc, components)?;
+    let at = push(
+        code,
+        Instruction::PutTag {
+            collection,
+            components,
+            next,
+        },
+    )?;
+    Ok(at)
+}
+
+// Adds an instruction. The result is its place.
+#[tactic(auto, using(crate::proofs::Coded::stands_last, crate::proofs::Coded::keeps_more))]
+fn push(code: &mut Vec<Instruction>, one: Instruction) -> Result<usize, AllocError>
+    ensures stands { IfOk result (λ at. Stands code.new.items at one) }
+    ensures keeps { IfOk result (λ at. Keeps code.old.items code.new.items) }
+{
+    code.reserve(1)?;
+    let at = code.len();
+    code.push_reserved(one);
+    Ok(at)
+}
