@@ -129,9 +129,9 @@ fn go_on(
 
 fn tell_parked(graph: &Graph, parked: &Parked<'_>, out: &mut String) -> Result<(), AllocError> {
     out.push_str(", parked at ")?;
-    tell_address(graph, &parked.address, out)?;
-    let instance = parked.instance;
-    write!(out, " behind {} reads of", parked.reads.as_slice().len())?;
+    tell_address(graph, &parked.address(), out)?;
+    let instance = parked.instance();
+    write!(out, " behind {} reads of", parked.reads().len())?;
     tell_key(out, &instance.key)
 }
 

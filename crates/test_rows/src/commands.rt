@@ -3,6 +3,7 @@
 //! - `text NAME`, `bytes NAME`: gives the name to what stands below it
 //! - `tokens`, `parse`, `reads`, `graph`, `beginnings`, `refuses BYTES`: a graph text (`graphs`)
 //! - `run NAME`: instances of a graph's steps, with the values of what they get (`bodies`)
+//! - `alike SEED COUNT`: random bodies, each run and told from its tree (`random_bodies`)
 //! - `event`, `payload`, `image`, and `short event`, `short payload`, `short image`: bytes that spell one (`codecs`).
 //!   `event of 2` reads keys of at most two components, and so with the other two
 //! - `rising KIND`: values that rise (`orders`)
@@ -19,8 +20,8 @@ ghost use Rattle.std.specs.Prelude.{◌≤◌};
 ghost use Rattle.terms.specs.declared.key.TheConstants.{MAX_COMPONENTS};
 
 use crate::{
-    bodies, bytes, codecs, cores, crashes, forged, graphs, item_calls, journals, orders, states,
-    stories, vaults,
+    bodies, bytes, codecs, cores, crashes, forged, graphs, item_calls, journals, orders,
+    random_bodies, states, stories, vaults,
 };
 use codecs::Spelled;
 use std::alloc::{AllocError, Global};
@@ -49,6 +50,7 @@ pub(crate) fn answer(
             Some(text) => bodies::answer(alloc, text, input),
             None => String::from_str(alloc, "no such name\n"),
         },
+        "alike" => random_bodies::answer(alloc, rest),
         "core" => stories::answer::<cores::Store>(alloc, names, rest, input),
         "crashes" => crashes::answer(alloc, names, rest, input),
         "forged" => forged::answer(alloc, names, rest),

@@ -42,7 +42,7 @@ fn settle(machine: &mut Machine, task: Task, came: Came<'_>) -> Result<(), Alloc
             stop(machine, task, bad.kind());
             Ok(())
         }
-        Came::Waits(parked) => machine.park(task, parked.address),
+        Came::Waits(parked) => machine.park(task, parked.address()),
     }
 }
 
