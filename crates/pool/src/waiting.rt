@@ -60,6 +60,9 @@ impl<'a> Waiting<'a> {
         facts_go_on();
         results_are_meant();
         orders_are_total();
+        if self.places.is_empty() {
+            return None;
+        }
         let place = place_of(instance);
         if place >= self.places.len() {
             return None;
