@@ -1,28 +1,27 @@
 //! The instances that are done in a store, run anew.
 ghost use Rattle.std.specs.Prelude.{◌≡◌, true, false, Ok, OnOk};
-ghost use Rattle.audit.specs.Replayed.{AreLeftOut, IsReplayed, NoneIsReady, ReplaysOne};
+ghost use Rattle.audit.specs.Replayed.{AreStuck, IsReplayed, ReplaysOne};
 
 use crate::Progress;
 use crate::hints::Hints;
-use crate::steps::replay_task;
+use crate::steps::try_one;
+use crate::tried::Tried;
 use graph::Graph;
-use machine::Machine;
+use machine::{Machine, Marks};
 use std::alloc::{AllocError, Global};
 use std::sync::Arc;
 use terms::facts_are_told_apart;
 
-/// Replays each instance of the store that can be replayed: it is done there, its items are replayed, and the store has what its body puts.
+/// Replays each instance of the store that can be replayed. It sweeps over those that are done, until none is left or a sweep replays none.
 pub(crate) fn replay<P: Progress>(
     alloc: Global,
     store: &Machine,
-    made: &mut Machine,
+    marks: &mut Marks<'_>,
     progress: &mut P,
 ) -> Result<(), AllocError>
-    requires replayed { IsReplayed store.now made.old }
-    requires left_out { AreLeftOut store.now made.old }
-    ensures replayed { OnOk result (IsReplayed store.now made.new) }
-    ensures left_out { OnOk result (AreLeftOut store.now made.new) }
-    ensures all { OnOk result (NoneIsReady made.new) }
+    requires { IsReplayed store.now marks.old }
+    ensures replayed { OnOk result (IsReplayed store.now marks.new) }
+    ensures stuck { OnOk result (AreStuck store.now marks.new) }
 {
     facts_are_told_apart();
     store.is_kept();
@@ -31,41 +30,44 @@ pub(crate) fn replay<P: Progress>(
     let graph = Arc::clone(store.graph())?;
     let mut hints = Hints::new();
     loop {
-        if !replay_one(alloc, store, &graph, made, &mut hints)? {
+        if marks.first_done_left().is_none() {
             return Ok(());
         }
-        progress.replayed();
+        if !sweep(alloc, store, &graph, marks, &mut hints, progress)? {
+            return Ok(());
+        }
     }
 }
 
-// Runs ready instances until one is replayed. Says whether one was.
-fn replay_one(
+// Tries each instance that is done in the store, by step and then by key. Says whether one was replayed.
+fn sweep<P: Progress>(
     alloc: Global,
     store: &Machine,
     graph: &Graph,
-    made: &mut Machine,
+    marks: &mut Marks<'_>,
     hints: &mut Hints,
+    progress: &mut P,
 ) -> Result<bool, AllocError>
     requires graph { graph.now ≡ store.now.graph }
-    requires replayed { IsReplayed store.now made.old }
-    requires left_out { AreLeftOut store.now made.old }
-    ensures replayed { OnOk result (IsReplayed store.now made.new) }
-    ensures left_out { OnOk result (AreLeftOut store.now made.new) }
-    ensures one { result ≡ Ok true → ReplaysOne store.now made.old made.new }
-    ensures none { result ≡ Ok false → NoneIsReady made.new }
+    requires replayed { IsReplayed store.now marks.old }
+    ensures replayed { OnOk result (IsReplayed store.now marks.new) }
+    ensures one { result ≡ Ok true → ReplaysOne store.now marks.old marks.new }
+    ensures none { result ≡ Ok false → AreStuck store.now marks.new }
 {
     facts_are_told_apart();
-    loop {
-        match made.claim(0) {
-            None => {
-                made.is_kept();
-                return Ok(false);
+    store.is_kept();
+    let mut is_one = false;
+    for inst in store.done() {
+        let one = inst;
+        match try_one(alloc, store, graph, marks, one, hints)? {
+            Tried::Replayed(puts) => {
+                drop(puts);
+                progress.replayed();
+                is_one = true;
             }
-            Some(task) => {
-                if replay_task(alloc, store, graph, made, task, hints)? {
-                    return Ok(true);
-                }
-            }
+            Tried::Waits(_) => {}
+            Tried::AsBefore => {}
         }
     }
+    Ok(is_one)
 }
