@@ -20,7 +20,7 @@ use Rattle.machine.specs.Promise.{IsKept}
 use Rattle.machine.specs.StateLaws.{EmptyIsReached, ReachedTakes}
 use Rattle.machine.proofs.Sets.{either, or_left, or_right, same_truth}
 use Rattle.machine.proofs.Kept.{only}
-use Rattle.audit.specs.Replayed.{IsBegun, IsReplayed}
+use Rattle.audit.specs.Replayed.{Grows, IsBegun, IsReplayed}
 use Rattle.audit.proofs.Left.{Left, held, more_done, one_done, the_next}
 use Rattle.audit.proofs.Stated.{moved_reached, never}
 
@@ -139,9 +139,6 @@ GivenTag store it = mark_of store.memory.instances it.0 ≡ Some it.1
 
 abbrev pub HasGivenTag : Marks → Tag × Bool → Type 0
 HasGivenTag m it = it.1 ≡ true → marked m (tag it.0) ≡ true
-
-abbrev pub Grows : Marks → Marks → Type 0
-Grows old new = (fact : Fact) → marked old fact ≡ true → marked new fact ≡ true
 
 -- the mark of a tag tells whether the environment put it
 pub given : (o : Option Bool) → unwrap_or o false ≡ true → o ≡ Some true

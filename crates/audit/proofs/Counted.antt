@@ -5,14 +5,14 @@ use Rattle.std.specs.List.{list_any}
 use Rattle.std.specs.Ordering.{eq_by_cmp}
 use Rattle.terms.specs.Name.{inst_cmp}
 use Rattle.terms.specs.declared.name.Inst.{Inst}
-use Rattle.terms.specs.Facts.{Fact, done}
+use Rattle.terms.specs.Facts.{done}
 use Rattle.terms.specs.Sets.{OneFact}
 use Rattle.instances.specs.Listed.{AreTheDone, all_done}
 use Rattle.machine.specs.Machine.{Machine, facts}
 use Rattle.machine.specs.Marked.{Marks, marked}
 use Rattle.machine.specs.Promise.{IsKept}
 use Rattle.machine.proofs.Sets.{either}
-use Rattle.audit.specs.Replayed.{ReplaysOne}
+use Rattle.audit.specs.Replayed.{Grows, ReplaysOne}
 use Rattle.audit.proofs.Left.{IsIn}
 
 -- how many of these are not marked
@@ -23,14 +23,14 @@ left_of m (instance ∷ list) = cond (marked m (done instance)) 0 1 + left_of m 
 abbrev pub to_replay : Machine → Marks → ℕ
 to_replay store m = left_of m (all_done store.memory.instances)
 
-module _ (old new : Marks) (grows : (fact : Fact) → marked old fact ≡ true → marked new fact ≡ true) where
+module _ (old new : Marks) (grows : Grows old new) where
   one : (instance : Inst) (a b : Bool) → marked old (done instance) ≡ a → marked new (done instance) ≡ b → cond b 0 1 ≤ cond a 0 1
   one instance true true was is = omega arith
   one instance true false was is = absurd (false≢true (sym is ∙ grows (done instance) was))
   one instance false true was is = omega arith
   one instance false false was is = omega arith
 
-  no_more : (list : List Inst) → left_of new list ≤ left_of old list
+  pub no_more : (list : List Inst) → left_of new list ≤ left_of old list
   no_more [] = omega arith
   no_more (instance ∷ list) = omega (arith, one instance (marked old (done instance)) (marked new (done instance)) refl refl, no_more list)
 
@@ -74,3 +74,7 @@ module _ (told : OneFact) where
   pub one_less : (store : Machine) (old new : Marks) → IsKept store → AreTheDone store.memory.instances (all_done store.memory.instances) → ReplaysOne store old new → to_replay store new < to_replay store old
   one_less store old new kept are it =
       fewer old new it.replays.grows it.instance it.replays.before it.replays.after (all_done store.memory.instances) (done_is_listed store kept (all_done store.memory.instances) are it.instance it.of_store)
+
+  -- and after more marks
+  pub one_less_then : (store : Machine) (old mid new : Marks) → IsKept store → AreTheDone store.memory.instances (all_done store.memory.instances) → ReplaysOne store old mid → Grows mid new → to_replay store new < to_replay store old
+  one_less_then store old mid new kept are it grows = omega (arith, one_less store old mid kept are it, no_more mid new grows (all_done store.memory.instances))

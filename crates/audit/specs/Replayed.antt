@@ -44,11 +44,15 @@ AreStuck store m = (instance : Inst) → facts store (done instance) ≡ true �
 abbrev pub HasAll : Facts → Inst → List Put → Type 0
 HasAll X instance puts = (number : ℕ) (put : Put) → slice_get puts number ≡ Some put → X (put_fact instance number put) ≡ true
 
--- an instance was not marked before, and is now; whatever was marked still is
+-- whatever was marked still is
+abbrev pub Grows : Marks → Marks → Type 0
+Grows old new = (fact : Fact) → marked old fact ≡ true → marked new fact ≡ true
+
+-- an instance was not marked before, and is now
 pub record ReplaysAs (old new : Marks) (instance : Inst) : Type 0 where
   pub before : marked old (done instance) ≡ false
   pub after : marked new (done instance) ≡ true
-  pub grows : (fact : Fact) → marked old fact ≡ true → marked new fact ≡ true
+  pub grows : Grows old new
 
 -- one of the instances that are done in the store
 pub record ReplaysOne (store : Machine) (old new : Marks) : Type 0 where

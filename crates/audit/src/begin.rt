@@ -3,10 +3,10 @@ ghost use Rattle.std.specs.Prelude.{◌≡◌, ℤ, true};
 ghost use Rattle.terms.specs.declared.name.Addr.{Addr as Address};
 ghost use Rattle.terms.specs.declared.name.Tag.{Tag as Name};
 ghost use Rattle.terms.specs.declared.producer.Producer.TheVariants.{Env};
-ghost use Rattle.terms.specs.Facts.{Fact, item, tag as name};
+ghost use Rattle.terms.specs.Facts.{item, tag as name};
 ghost use Rattle.machine.specs.Machine.{environment};
 ghost use Rattle.machine.specs.Marked.{IsUnmarked, marked};
-ghost use Rattle.audit.specs.Replayed.{IsBegun, IsReplayed};
+ghost use Rattle.audit.specs.Replayed.{Grows, IsBegun, IsReplayed};
 
 use machine::{Machine, Marks, reached_goes_on};
 use maps::Hint;
@@ -49,7 +49,7 @@ fn mark_tags(store: &Machine, marks: &mut Marks<'_>)
     requires { IsBegun store.now marks.old }
     ensures begun { IsBegun store.now marks.new }
     ensures tags { (one : Name) → environment store.now (name one) ≡ true → marked marks.new (name one) ≡ true }
-    ensures grows { (fact : Fact) → marked marks.old fact ≡ true → marked marks.new fact ≡ true }
+    ensures grows { Grows marks.old marks.new }
 {
     facts_are_told_apart();
     reached_goes_on();

@@ -14,5 +14,6 @@ mod marking;
 mod replay;
 mod steps;
 mod tried;
+mod waiting;
 
 pub use certificate::{Progress, VerifyError, verify};

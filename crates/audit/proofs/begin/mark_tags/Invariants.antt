@@ -1,5 +1,5 @@
-use Rattle.audit.specs.Replayed.{IsBegun}
-use Rattle.audit.proofs.Beginning.{GivenTag, Grows, HasGivenTag}
+use Rattle.audit.specs.Replayed.{Grows, IsBegun}
+use Rattle.audit.proofs.Beginning.{GivenTag, HasGivenTag}
 use Rattle.audit.proofs.Left.{Left}
 use Rattle.audit.proofs.begin.mark_tags.Given as goal
 
