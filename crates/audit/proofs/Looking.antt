@@ -3,6 +3,7 @@ use Rattle.std.proofs.Common.{◌≡◌, ◌∙◌, ℕ, ℤ, Bool, true, false,
 use Rattle.std.proofs.lemmas.Bool.{false≢true}
 use Rattle.std.specs.Prelude.{is_some, slice_get}
 use Rattle.std.specs.Option.{option_map}
+use Rattle.std.specs.Bool.{then_some}
 use Rattle.terms.specs.declared.name.Addr.{Addr}
 use Rattle.terms.specs.declared.name.Inst.{Inst}
 use Rattle.terms.specs.declared.name.Tag.{Tag}
@@ -13,7 +14,7 @@ use Rattle.terms.specs.Sets.{OneFact}
 use Rattle.graph.specs.Graph.{Graph, Prescribes, Step}
 use Rattle.graph.specs.Fits.{IsAbsent}
 use Rattle.items.specs.Held.{item_at}
-use Rattle.machine.specs.Machine.{facts}
+use Rattle.machine.specs.Machine.{IsValueAt, facts}
 use Rattle.machine.specs.Marked.{IsItemLeft, IsPartOfStore, Marks, item_in, marked}
 use Rattle.audit.proofs.Left.{held, is_held}
 use Rattle.audit.proofs.Stated.{never}
@@ -52,6 +53,19 @@ no_tag o false part same = refl
 abbrev with_mark : Marks → Addr → ℤ × Producer → ℤ × Producer × Bool
 with_mark m address there = (there.0, there.1, marked m (item address there.0 there.1))
 
+item_told : (m : Marks) (address : Addr) (value : ℤ) (by : Producer) (b : Bool) → ◌≡◌ {A = Option (ℤ × Producer × Bool)} (Some (value, by, b)) (item_in m address) → marked m (item address value by) ≡ b
+item_told m address value by b same = at (item_at m.store.memory.items address) same
+  where
+    at : (o : Option (ℤ × Producer)) → ◌≡◌ {A = Option (ℤ × Producer × Bool)} (Some (value, by, b)) (option_map (with_mark m address) o) → marked m (item address value by) ≡ b
+    at None is = absurd (cc)
+    at (Some there) is = there_is (inside is)
+      where
+        inside : ◌≡◌ {A = Option (ℤ × Producer × Bool)} (Some (value, by, b)) (Some (with_mark m address there)) → ◌≡◌ {A = ℤ × Producer × Bool} (value, by, b) (with_mark m address there)
+        inside same = cc
+
+        there_is : ◌≡◌ {A = ℤ × Producer × Bool} (value, by, b) (with_mark m address there) → marked m (item address value by) ≡ b
+        there_is same = (λ i. marked m (item address (same i).0 (same i).1)) ∙ sym (λ i. (same i).2)
+
 module _ (told : OneFact) (m : Marks) where
   -- what is marked is what a look-up tells
   pub absent : IsPartOfStore m → (address : Addr) (o : Option (ℤ × Producer × Bool)) → o ≡ item_in m address → ((value : ℤ) (by : Producer) → ◌≡◌ {A = Option (ℤ × Producer × Bool)} o (Some (value, by, true)) → ⊥) → IsAbsent (marked m) address
@@ -68,17 +82,19 @@ module _ (told : OneFact) (m : Marks) where
       not : (value : ℤ) (by : Producer) → ◌≡◌ {A = Option (ℤ × Producer × Bool)} None (Some (value, by, true)) → ⊥
       not value by same = cc
 
-  pub unmarked_is_absent : IsPartOfStore m → (address : Addr) (v : ℤ) (p : Producer) (b : Bool) → b ≡ false → ◌≡◌ {A = Option (ℤ × Producer × Bool)} (Some (v, p, b)) (item_in m address) → IsAbsent (marked m) address
-  unmarked_is_absent part address v p b not_b is = absent part address (Some (v, p, b)) is not
+  -- an item that is there, with its mark
+  pub value_told : IsPartOfStore m → (address : Addr) (v : ℤ) (p : Producer) (mark : Bool) (told_value : Option ℤ) → ◌≡◌ {A = Option (ℤ × Producer × Bool)} (Some (v, p, mark)) (item_in m address) → told_value ≡ then_some mark v → IsValueAt (marked m) address told_value
+  value_told part address v p mark told_value is same = subst (λ (o : Option ℤ). IsValueAt (marked m) address o) (sym same) (at mark refl)
     where
-      inside : (value : ℤ) (by : Producer) → ◌≡◌ {A = Option (ℤ × Producer × Bool)} (Some (v, p, b)) (Some (value, by, true)) → ◌≡◌ {A = ℤ × Producer × Bool} (v, p, b) (value, by, true)
+      inside : (value : ℤ) (by : Producer) → ◌≡◌ {A = Option (ℤ × Producer × Bool)} (Some (v, p, mark)) (Some (value, by, true)) → ◌≡◌ {A = ℤ × Producer × Bool} (v, p, mark) (value, by, true)
       inside value by same = cc
 
-      last : (value : ℤ) (by : Producer) → ◌≡◌ {A = ℤ × Producer × Bool} (v, p, b) (value, by, true) → b ≡ true
+      last : (value : ℤ) (by : Producer) → ◌≡◌ {A = ℤ × Producer × Bool} (v, p, mark) (value, by, true) → mark ≡ true
       last value by same = λ i. (same i).2
 
-      not : (value : ℤ) (by : Producer) → ◌≡◌ {A = Option (ℤ × Producer × Bool)} (Some (v, p, b)) (Some (value, by, true)) → ⊥
-      not value by same = false≢true (sym not_b ∙ last value by (inside value by same))
+      at : (b : Bool) → mark ≡ b → IsValueAt (marked m) address (then_some b v)
+      at true so = (p, item_told m address v p mark is ∙ so)
+      at false so = absent part address (Some (v, p, mark)) is (λ value by same. false≢true (sym so ∙ last value by (inside value by same)))
 
   -- an item that is left
   pub record LeftAt (address : Addr) : Type 0 where

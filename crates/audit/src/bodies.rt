@@ -76,8 +76,7 @@ pub(crate) fn value_at(marks: &Marks<'_>, address: Addr, hint: &mut Hint) -> Opt
     facts_are_told_apart();
     marks.is_part();
     match marks.item(address, hint) {
-        Some((value, _, true)) => Some(value),
-        Some((_, _, false)) => None,
+        Some((value, _, mark)) => mark.then_some(value),
         None => None,
     }
 }

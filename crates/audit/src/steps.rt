@@ -69,7 +69,7 @@ fn is_marked(marks: &Marks<'_>, inst: Inst, hint: &mut Hint) -> bool
 {
     marks.is_part();
     match marks.done(inst, hint) {
-        Some(is) => is,
+        Some(mark) => mark,
         None => false,
     }
 }
@@ -93,7 +93,7 @@ fn is_tag_marked(marks: &Marks<'_>, tag: Tag, hint: &mut Hint) -> bool
 {
     marks.is_part();
     match marks.tag(tag, hint) {
-        Some((_, is)) => is,
+        Some((_, mark)) => mark,
         None => false,
     }
 }
