@@ -1,15 +1,18 @@
 -- What is replayed of a store: it is marked there. The store is what a reader of its files was told; what is marked, legal events lead to.
-use Rattle.std.specs.Prelude.{◌≡◌, ◌⊎◌, ℕ, true, false, List, Some, slice_get}
+use Rattle.std.specs.Prelude.{◌≡◌, ◌⊎◌, ℕ, ℤ, true, false, List, [], ◌∷◌, Some, slice_get}
+use Rattle.terms.specs.declared.name.Addr.{Addr}
+use Rattle.terms.specs.declared.name.Tag.{Tag}
 use Rattle.terms.specs.declared.name.Inst.{Inst}
+use Rattle.terms.specs.declared.producer.Producer.TheVariants.{Env}
 use Rattle.terms.specs.declared.put.Put.{Put}
-use Rattle.terms.specs.Facts.{Fact, done, put_fact}
+use Rattle.terms.specs.Facts.{Fact, tag, item, done, put_fact, put_facts}
 use Rattle.terms.specs.Sets.{Facts}
 use Rattle.graph.specs.Graph.{Graph}
 use Rattle.graph.specs.Fits.{IsAbsent, IsPrescribed}
 use Rattle.machine.specs.Meaning.{BodyGives}
 use Rattle.machine.specs.State.{IsReached}
 use Rattle.machine.specs.Machine.{Machine, environment, facts}
-use Rattle.machine.specs.Marked.{Marks, marked}
+use Rattle.machine.specs.Marked.{Marks, MarksMore, marked}
 use Rattle.commit.specs.Came.{IsOutcomeIn, IsParkedIn}
 use Rattle.commit.specs.declared.bodies.Came.{Came}
 use Rattle.commit.specs.declared.bodies.Came.TheVariants.{Ended, Waits}
@@ -28,6 +31,13 @@ pub record IsBegun (store : Machine) (m : Marks) : Type 0 where
   pub reached : IsReached store.graph (marked m) (marked m)
   pub given : (fact : Fact) → marked m fact ≡ true → environment store fact ≡ true
 
+-- each item that the environment put is marked, and each tag
+abbrev pub AreGivenItemsMarked : Machine → Marks → Type 0
+AreGivenItemsMarked store m = (address : Addr) (value : ℤ) → environment store (item address value Env) ≡ true → marked m (item address value Env) ≡ true
+
+abbrev pub AreGivenTagsMarked : Machine → Marks → Type 0
+AreGivenTagsMarked store m = (name : Tag) → environment store (tag name) ≡ true → marked m (tag name) ≡ true
+
 -- no legal events lead to the store
 abbrev pub IsForged : Machine → Type 0
 IsForged store = IsReached store.graph (environment store) (facts store) → ⊥
@@ -43,6 +53,13 @@ AreStuck store m = (instance : Inst) → facts store (done instance) ≡ true �
 -- each put of the instance's list states a fact of the set
 abbrev pub HasAll : Facts → Inst → List Put → Type 0
 HasAll X instance puts = (number : ℕ) (put : Put) → slice_get puts number ≡ Some put → X (put_fact instance number put) ≡ true
+
+-- if the store has what the put states, that is marked now, and nothing else has changed; and the same of a list of puts
+abbrev pub MarksPut : Marks → Marks → Put → Type 0
+MarksPut old new put = (instance : Inst) (number : ℕ) → facts old.store (put_fact instance number put) ≡ true → MarksMore old new (put_fact instance number put ∷ [])
+
+abbrev pub MarksPuts : Marks → Marks → List Put → Type 0
+MarksPuts old new puts = (instance : Inst) → HasAll (facts old.store) instance puts → MarksMore old new (put_facts instance 0 puts)
 
 -- whatever was marked still is
 abbrev pub Grows : Marks → Marks → Type 0

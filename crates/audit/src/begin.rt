@@ -1,12 +1,6 @@
 //! What the environment put is where a replay begins.
-ghost use Rattle.std.specs.Prelude.{◌≡◌, ℤ, true};
-ghost use Rattle.terms.specs.declared.name.Addr.{Addr as Address};
-ghost use Rattle.terms.specs.declared.name.Tag.{Tag as Name};
-ghost use Rattle.terms.specs.declared.producer.Producer.TheVariants.{Env};
-ghost use Rattle.terms.specs.Facts.{item, tag as name};
-ghost use Rattle.machine.specs.Machine.{environment};
-ghost use Rattle.machine.specs.Marked.{IsUnmarked, marked};
-ghost use Rattle.audit.specs.Replayed.{Grows, IsBegun, IsReplayed};
+ghost use Rattle.machine.specs.Marked.{IsUnmarked};
+ghost use Rattle.audit.specs.Replayed.{AreGivenItemsMarked, AreGivenTagsMarked, Grows, IsBegun, IsReplayed};
 
 use machine::{Machine, Marks, reached_goes_on};
 use maps::Hint;
@@ -28,7 +22,7 @@ pub(crate) fn begin(store: &Machine, marks: &mut Marks<'_>)
 fn mark_items(store: &Machine, marks: &mut Marks<'_>)
     requires { IsBegun store.now marks.old }
     ensures begun { IsBegun store.now marks.new }
-    ensures items { (address : Address) (value : ℤ) → environment store.now (item address value Env) ≡ true → marked marks.new (item address value Env) ≡ true }
+    ensures items { AreGivenItemsMarked store.now marks.new }
 {
     facts_are_told_apart();
     reached_goes_on();
@@ -48,7 +42,7 @@ fn mark_items(store: &Machine, marks: &mut Marks<'_>)
 fn mark_tags(store: &Machine, marks: &mut Marks<'_>)
     requires { IsBegun store.now marks.old }
     ensures begun { IsBegun store.now marks.new }
-    ensures tags { (one : Name) → environment store.now (name one) ≡ true → marked marks.new (name one) ≡ true }
+    ensures tags { AreGivenTagsMarked store.now marks.new }
     ensures grows { Grows marks.old marks.new }
 {
     facts_are_told_apart();

@@ -52,7 +52,7 @@ impl Progress for () {
 }
 
 /// Whether what a store holds is what its graph's steps can have come to: `Ok` exactly if some legal events lead there, unless memory is refused. It trusts no mark of the store:
-/// it runs the body of each instance that is done there once, or, where it has to wait for an item, up to that item and then anew.
+/// it runs the body of each instance that is done there to its end, or, where an item was not replayed so far, up to that item and then anew.
 pub fn verify<D: Disk, P: Progress>(
     alloc: Global,
     core: &Core<D>,

@@ -1,11 +1,10 @@
 //! The marks of an instance that is replayed, and of its puts.
-ghost use Rattle.std.specs.Prelude.{◌≡◌, ◌∷◌, [], ℕ, true};
-ghost use Rattle.terms.specs.declared.name.Inst.{Inst as Instance};
+ghost use Rattle.std.specs.Prelude.{◌≡◌, true};
 ghost use Rattle.terms.specs.declared.event.Event.TheVariants.{Done};
-ghost use Rattle.terms.specs.Facts.{done, event_facts, put_fact, put_facts};
+ghost use Rattle.terms.specs.Facts.{done, event_facts};
 ghost use Rattle.machine.specs.Machine.{facts};
 ghost use Rattle.machine.specs.Marked.{MarksMore};
-ghost use Rattle.audit.specs.Replayed.{HasAll};
+ghost use Rattle.audit.specs.Replayed.{HasAll, MarksPut, MarksPuts};
 
 use crate::hints::Hints;
 use machine::Marks;
@@ -25,7 +24,7 @@ pub(crate) fn mark_end(marks: &mut Marks<'_>, inst: Inst, puts: &[Put], hints: &
 
 // Marks what these puts of an instance state.
 fn mark_puts(marks: &mut Marks<'_>, puts: &[Put], hints: &mut Hints)
-    ensures { (instance : Instance) → HasAll (facts marks.old.store) instance puts.now → MarksMore marks.old marks.new (put_facts instance 0 puts.now) }
+    ensures { MarksPuts marks.old marks.new puts.now }
 {
     facts_are_told_apart();
     for put in puts {
@@ -35,7 +34,7 @@ fn mark_puts(marks: &mut Marks<'_>, puts: &[Put], hints: &mut Hints)
 
 // Marks what a put of an instance states.
 fn mark_put(marks: &mut Marks<'_>, put: &Put, hints: &mut Hints)
-    ensures { (instance : Instance) (number : ℕ) → facts marks.old.store (put_fact instance number put.now) ≡ true → MarksMore marks.old marks.new (put_fact instance number put.now ∷ []) }
+    ensures { MarksPut marks.old marks.new put.now }
 {
     facts_are_told_apart();
     match put {
