@@ -1,6 +1,7 @@
 -- What the run of a body came to, over what was replayed, and whether its instance is at fault so.
-use Rattle.std.proofs.Common.{◌≡◌, ◌≢◌, ◌↔◌, ◌∙◌, ◌&&◌, nat_eq, not, IsTrue, Bool, true, false, List, inl, inr, refl, sym, subst}
+use Rattle.std.proofs.Common.{◌≡◌, ◌≢◌, ◌↔◌, ◌∙◌, ◌&&◌, nat_eq, not, IsTrue, Bool, true, false, ℕ, List, Some, Result, Ok, Err, IfOk, inl, inr, refl, sym, subst}
 use Rattle.std.proofs.lemmas.Bool.{false≢true}
+use Rattle.std.specs.Prelude.{slice_get}
 use Rattle.std.specs.Bool.{MatchBool}
 use Rattle.std.specs.Ordering.{is_eq}
 use Rattle.terms.specs.Fault.{fault_number}
@@ -10,7 +11,8 @@ use Rattle.terms.specs.declared.name.Inst.{Inst}
 use Rattle.terms.specs.declared.fault.FaultKind.{FaultKind}
 use Rattle.terms.specs.declared.fault.FaultKind.TheVariants.{DoublePut}
 use Rattle.terms.specs.declared.put.Put.{Put}
-use Rattle.terms.specs.Facts.{bad, done}
+use Rattle.terms.specs.declared.put.Put.TheVariants as put
+use Rattle.terms.specs.Facts.{Fact, item, bad, done}
 use Rattle.terms.specs.Sets.{Facts, OneFact, AmongBoth}
 use Rattle.steptree.specs.Bodies.{Along, Asks, Ending, Faults, Gives}
 use Rattle.steptree.specs.Laws.{LookUpEndsOnce}
@@ -18,7 +20,7 @@ use Rattle.steplang.specs.declared.outcome.Given.{Given}
 use Rattle.steplang.specs.declared.outcome.Bad.{Bad}
 use Rattle.steplang.specs.Running.{Asking}
 use Rattle.graph.specs.Graph.{BodyMeans, Graph}
-use Rattle.graph.specs.Fits.{AreNew, IsAbsent}
+use Rattle.graph.specs.Fits.{addresses, AreNew, IsAbsent, IsTwiceIn}
 use Rattle.machine.specs.Legal.{Conflicts, IsAtFault, Needs}
 use Rattle.machine.specs.Meaning.{BodyFaults, BodyGives, items}
 use Rattle.machine.specs.Results.{FaultsAlong, GivesAlong, NeedsAlong}
@@ -26,6 +28,8 @@ use Rattle.machine.specs.State.{IsReached}
 use Rattle.machine.proofs.Reached.{reached_one_ending}
 use Rattle.commit.specs.Came.{IsOutcomeIn, IsParkedIn}
 use Rattle.commit.specs.declared.outcome.Outcome.TheVariants.{Fault, Gave}
+use Rattle.audit.specs.Free.{AreAllFree, IsOneTaken, IsTaken}
+use Rattle.audit.proofs.Numbered.{is_among, put_at}
 
 pub body_gives : GivesAlong → (g : Graph) (X : Facts) (task : Inst) (given : Given) → IsOutcomeIn g X task (Gave given) → BodyGives g X task given.puts
 body_gives along g X task given is = along g X task given.checked.now.body given.reads given.puts is.1 is.2 (subst (λ (i : Inst). Along given.checked.now.body i.key given.reads (Gives given.puts)) is.0 given.along)
@@ -83,11 +87,42 @@ module _ (told : OneFact) (both : AmongBoth) (once : LookUpEndsOnce) (g : Graph)
   waits_for address kind needs (inl faults) = asks_or_faults address kind (unique (Asks address) (Faults kind) needs faults)
   waits_for address kind needs (inr double) = asks_or_gives address double.1.0 (unique (Asks address) (Gives double.1.0) needs double.1.1)
 
--- whether new puts were found tells whether there is a double put
-pub double_put : OneFact → AmongBoth → LookUpEndsOnce → (g : Graph) (E X : Facts) → IsReached g E X → (task : Inst) (puts : List Put) (kind : FaultKind) (new : Bool) → kind ≡ DoublePut → BodyGives g X task puts → MatchBool new (AreNew X puts) (Conflicts X puts)
-    → IsTrue (not new) ↔ IsAtFault g X task kind
-double_put told both once g E X reached task puts kind true is gives found = (λ no. absurd (false≢true no), λ at. absurd (gave_new told both once g E X reached task puts kind gives found at))
-double_put told both once g E X reached task puts kind false is gives found = (λ yes_. inr (is, (puts, gives, found)), λ at. refl)
+pub if_ok_too : {X E : Type 0} → (P Q : X → Type 0) (r : Result X E) → ((x : X) → P x → Q x) → IfOk r P → IfOk r Q
+if_ok_too P Q (Ok x) then_too is = then_too x is
+if_ok_too P Q (Err e) then_too is = is
+
+pub found_true : (P Q : Type 0) (b : Bool) → b ≡ true → MatchBool b P Q → P
+found_true P Q true is found = found
+found_true P Q false is found = absurd (false≢true is)
+
+pub found_false : (P Q : Type 0) (b : Bool) → b ≡ false → MatchBool b P Q → Q
+found_false P Q true is found = absurd (false≢true (sym is))
+found_false P Q false is found = found
+
+-- whether a conflict was found tells whether there is a double put
+pub double_put : OneFact → AmongBoth → LookUpEndsOnce → (g : Graph) (E X : Facts) → IsReached g E X → (task : Inst) (puts : List Put) (kind : FaultKind) (conflict : Bool) → kind ≡ DoublePut → BodyGives g X task puts → MatchBool conflict (Conflicts X puts) (AreNew X puts)
+    → IsTrue conflict ↔ IsAtFault g X task kind
+double_put told both once g E X reached task puts kind false is gives found = (λ no. absurd (false≢true no), λ at. absurd (gave_new told both once g E X reached task puts kind gives found at))
+double_put told both once g E X reached task puts kind true is gives found = (λ yes_. inr (is, (puts, gives, found)), λ at. refl)
+
+-- a conflict among the puts is one over any set
+pub twice_conflicts : (none X : Facts) (puts : List Put) → ((fact : Fact) → none fact ≡ false) → Conflicts none puts → Conflicts X puts
+twice_conflicts none X puts empty conflict = (
+  conflict.0,
+  elim conflict.1 [
+    | inl twice ↦ inl twice
+    | inr other ↦ absurd (false≢true (sym (empty (item conflict.0 other.1.0 other.1.1)) ∙ other.1.2))
+  ],
+)
+
+taken_conflicts : (X : Facts) (puts : List Put) (number : ℕ) (one : Put) → slice_get puts number ≡ Some one → IsTaken X one → Conflicts X puts
+taken_conflicts X puts number (put.Item address value) is taken = (address, inr (is_among puts number address value is, taken))
+taken_conflicts X puts number (put.Tag name) is taken = absurd taken
+
+-- if no two of the puts are at one address, a conflict is an item that is there
+pub conflict_told : (X : Facts) (puts : List Put) (free : Bool) → ((address : Addr) → IsTwiceIn address (addresses puts) → ⊥) → MatchBool free (AreAllFree X puts) (IsOneTaken X puts) → MatchBool (not free) (Conflicts X puts) (AreNew X puts)
+conflict_told X puts true distinct free = record { absent = λ address is. let at = put_at puts address is in free at.number (put.Item address at.value) at.is; distinct = distinct }
+conflict_told X puts false distinct one = taken_conflicts X puts one.number one.put one.is_one one.taken
 
 -- the numbers of faults tell them apart
 pub same_number : OneFact → (instance : Inst) (one two : FaultKind) → nat_eq (fault_number one) (fault_number two) ≡ true → one ≡ two

@@ -1,9 +1,7 @@
--- If legal events lead to a store, and nothing is ready in its replay, all of it was replayed but its fault.
-use Rattle.std.proofs.Common.{◌≡◌, ◌⊎◌, ◌∙◌, true, List, [], ◌∷◌, ◌++◌, Option, None, Some, inl, inr, refl, sym, ap, subst}
+-- If legal events lead to a store, and nothing is left to replay, all of it is marked but its fault.
+use Rattle.std.proofs.Common.{◌≡◌, ◌⊎◌, ◌∙◌, Bool, true, false, List, [], ◌∷◌, ◌++◌, inl, inr, refl, sym, subst}
 use Rattle.std.proofs.lemmas.Bool.{false≢true}
 use Rattle.std.proofs.lemmas.List.{append_assoc, append-nil}
-use Rattle.std.specs.Prelude.{is_some}
-use Rattle.terms.specs.declared.name.Addr.{Addr}
 use Rattle.terms.specs.declared.name.Inst.{Inst}
 use Rattle.terms.specs.declared.fault.FaultKind.{FaultKind}
 use Rattle.terms.specs.declared.producer.Producer.TheVariants.{Env}
@@ -12,24 +10,23 @@ use Rattle.terms.specs.declared.event.Event.{Event}
 use Rattle.terms.specs.declared.event.Event.TheVariants.{EnvItem, EnvTag, Done, Stopped}
 use Rattle.terms.specs.Facts.{Fact, IsDone, tag, item, done, bad, facts as facts_in, environment as environment_in, put_facts, event_facts, environment_facts}
 use Rattle.terms.specs.Sets.{Facts, OneFact, AmongBoth, among}
-use Rattle.steptree.specs.Bodies.{Asks, Ending, Gives}
+use Rattle.steptree.specs.Bodies.{Ending, Gives}
 use Rattle.steptree.specs.Laws.{LookUpEndsOnce}
 use Rattle.graph.specs.Graph.{BodyMeans, Graph}
 use Rattle.graph.specs.Fits.{HasNoFault, IsPrescribed}
-use Rattle.instances.specs.declared.state.State.{State}
-use Rattle.instances.specs.declared.state.State.TheVariants as state
-use Rattle.machine.specs.Legal.{AreLegal, Conflicts, IsAtFault, IsLegal, Needs}
-use Rattle.machine.specs.Machine.{IsPut, Machine, environment, facts, state_of}
+use Rattle.machine.specs.Legal.{AreLegal, Conflicts, IsAtFault, IsLegal}
+use Rattle.machine.specs.Machine.{IsPut, Machine, environment, facts}
+use Rattle.machine.specs.Marked.{Marks, marked}
 use Rattle.machine.specs.Meaning.{BodyGives, items}
 use Rattle.machine.specs.Promise.{IsKept}
 use Rattle.machine.specs.State.{IsReached}
 use Rattle.machine.proofs.Grown.{faults_within, gives_within, prescribed_within}
 use Rattle.machine.proofs.Kept.{Gave, only}
 use Rattle.machine.proofs.Reached.{reached_one_ending}
-use Rattle.machine.proofs.Sets.{Within, in_one, in_two, of_both, of_list, the_first}
+use Rattle.machine.proofs.Sets.{Within, given_is_stated, in_one, in_two, of_both, of_list, the_first}
 use Rattle.machine.proofs.Within.{kept_from_nothing}
-use Rattle.audit.specs.Replayed.{AreLeftOut, IsReplayed, NoneIsReady}
-use Rattle.audit.proofs.Moving.{IsSound, each_of_all, moved_reached, sound_put}
+use Rattle.audit.specs.Replayed.{AreStuck, IsReplayed}
+use Rattle.audit.proofs.Stated.{IsSound, each_of_all, sound_put}
 
 -- a set without faults that has each fact of another one which is no fault has all of it
 pub all_within : (X Y : Facts) → HasNoFault X → ((fact : Fact) → IsSound fact → X fact ≡ true → Y fact ≡ true) → Within X Y
@@ -38,50 +35,42 @@ all_within X Y none sound (item address value by) there = sound (item address va
 all_within X Y none sound (done instance) there = sound (done instance) tt there
 all_within X Y none sound (bad instance kind) there = absurd (false≢true (sym (none instance kind) ∙ there))
 
-module _ (told : OneFact) (both : AmongBoth) (once : LookUpEndsOnce) (store made : Machine) (replayed : IsReplayed store made) (left_out : AreLeftOut store made) (none_ready : NoneIsReady made) (kept : IsKept made)
-    (it : IsReached store.graph (environment store) (facts store)) where
+module _ (told : OneFact) (both : AmongBoth) (once : LookUpEndsOnce) (store : Machine) (m : Marks) (replayed : IsReplayed store m) (stuck : AreStuck store m) (kept : IsKept store) (it : IsReached store.graph (environment store) (facts store)) where
   abbrev g : Graph
   g = store.graph
 
   abbrev Y : Facts
-  Y = facts made
+  Y = marked m
 
-  reached : IsReached g (environment made) Y
-  reached = moved_reached made.graph g (environment made) (environment made) Y Y replayed.graph (λ fact. refl) (λ fact. refl) replayed.reached
-
-  -- what is done in the replay gave its puts there
+  -- what is marked as done gave its puts there
   gave : (instance : Inst) → Y (done instance) ≡ true → Gave g Y instance
   gave instance there =
-      subst (λ (X : Facts). Gave g X instance) (λ i fact. reached.facts fact i)
-      ((kept_from_nothing told both g reached.events reached.legal).gave instance (reached.facts (done instance) ∙ there))
+      subst (λ (X : Facts). Gave g X instance) (λ i fact. replayed.reached.facts fact i)
+      ((kept_from_nothing told both g replayed.reached.events replayed.reached.legal).gave instance (replayed.reached.facts (done instance) ∙ there))
 
   unique : (instance : Inst) (one two : Ending) → BodyMeans g instance (items Y) one → BodyMeans g instance (items Y) two → one ≡ two
-  unique instance one two = reached_one_ending told both once g (environment made) Y reached instance one two
+  unique instance one two = reached_one_ending told both once g (environment store) Y replayed.reached instance one two
 
   same_puts : (one two : List Put) → Gives one ≡ Gives two → one ≡ two
   same_puts one two same = cc
 
-  asks_or_gives : (address : Addr) (list : List Put) → Asks address ≡ Gives list → ⊥
-  asks_or_gives address list same = cc
-
-  -- an instance that may end is done in the replay
+  -- an instance that may end is marked
   is_done : (instance : Inst) (puts : List Put) → facts store (done instance) ≡ true → IsPrescribed g Y instance → BodyGives g Y instance puts → Y (done instance) ≡ true
-  is_done instance puts of_store prescribed gives = at (state_of made instance) refl
+  is_done instance puts of_store prescribed gives = at (Y (done instance)) refl
     where
-      at : (o : Option State) → state_of made instance ≡ o → Y (done instance) ≡ true
-      at None is = absurd (false≢true (ap is_some (sym is) ∙ (kept.prescribed instance).1 (subst (λ (x : Graph). IsPrescribed x Y instance) (sym replayed.graph) prescribed)))
-      at (Some state.Ready) is = absurd (none_ready instance is)
-      at (Some state.Running) is = elim (left_out instance is) [ inl not ↦ absurd (false≢true (sym not ∙ of_store)) | inr forged ↦ absurd (forged it) ]
-      at (Some (state.Waiting address)) is =
-          let needs = subst (λ (x : Graph). Needs x Y instance address) replayed.graph (kept.waits instance address is).needs in
-          absurd (asks_or_gives address puts (unique instance (Asks address) (Gives puts) needs gives))
-      at (Some state.Done) is = (kept.done instance).0 is
+      at : (b : Bool) → Y (done instance) ≡ b → Y (done instance) ≡ true
+      at true is = is
+      at false is = absurd (stuck instance of_store is puts prescribed gives it)
+
+  -- what the environment put is marked
+  there_given : (fact : Fact) → environment store fact ≡ true → Y fact ≡ true
+  there_given fact there = sym (replayed.reached.facts fact) ∙ given_is_stated both replayed.reached.events fact (replayed.reached.environment fact ∙ there)
 
   -- what a legal event states was replayed, if what came before it was
   event_there : (before : List Fact) (event : Event) → IsLegal g (among before) event → Within (among before) Y → Within (among (environment_facts event)) (environment store) → Within (among (event_facts event)) (facts store)
       → (fact : Fact) → IsSound fact → among (event_facts event) fact ≡ true → Y fact ≡ true
-  event_there before (EnvItem address value) legal within given of_store fact sound there = kept.fits.part fact (replayed.environment fact ∙ given fact there)
-  event_there before (EnvTag name) legal within given of_store fact sound there = kept.fits.part fact (replayed.environment fact ∙ given fact there)
+  event_there before (EnvItem address value) legal within given of_store fact sound there = there_given fact (given fact there)
+  event_there before (EnvTag name) legal within given of_store fact sound there = there_given fact (given fact there)
   event_there before (Stopped instance kind) legal within given of_store fact sound there = absurd (subst IsSound (sym (only told both (bad instance kind) fact there)) sound)
   event_there before (Done instance puts) legal within given of_store fact sound there =
       let parts = legal.event_is_legal in

@@ -166,15 +166,3 @@ pub listed_is_tag : (m : Machine) (it : Tag × Bool) → IsIn it (map (λ (entry
 listed_is_tag m it is =
     let from = from_map (λ (entry : Place × Bool). (tag_at entry.0, entry.1)) it (entries m.memory.instances.tags.items) is in
     subst (λ (x : Tag × Bool). mark_of m.memory.instances x.0 ≡ Some x.1) (sym from.1) (get-entries m.memory.instances.tags.items from.0.0 ∙ found_first from.0.0 from.0.1 (entries m.memory.instances.tags.items) (entries_sorted m.memory.instances.tags.items) from.2)
-
--- ---- a walk beside another
-
--- Q holds of each element
-abbrev pub AllAre : {X : Type 0} → (X → Type 0) → List X → Type 0
-AllAre {X} Q list = (x : X) → IsIn x list → Q x
-
-pub first_is : {X : Type 0} (Q : X → Type 0) (x : X) (xs : List X) → AllAre Q (x ∷ xs) → Q x
-first_is Q x xs all = all x (inl refl)
-
-pub others_are : {X : Type 0} (Q : X → Type 0) (x : X) (xs : List X) → AllAre Q (x ∷ xs) → AllAre Q xs
-others_are Q x xs all y is = all y (inr is)

@@ -1,10 +1,14 @@
 pub mod Beginning
 pub mod Came
-pub mod Comparing
 pub mod Counted
 pub mod Forged
 pub mod Genuine
 pub mod Left
-pub mod Moving
+pub mod Listed
+pub mod Looking
+pub mod Numbered
+pub mod Ran
+pub mod Replaying
 pub mod Same
-pub mod Turning
+pub mod Stated
+pub mod Sweeping

@@ -3,15 +3,14 @@ ghost use Rattle.machine.specs.Machine.{environment, facts};
 ghost use Rattle.machine.specs.State.{IsReached};
 ghost use Rattle.commit.specs.Core as core_of;
 ghost use Rattle.audit.specs.declared.certificate.VerifyError.TheVariants.{Halted, NoMemory};
-ghost use Rattle.audit.specs.Replayed.{AreLeftOut, IsReplayed, NoneIsReady};
+ghost use Rattle.audit.specs.Replayed.{AreStuck, IsReplayed};
 
 use crate::begin::begin;
-use crate::compare::{instance_left, item_left, tag_left};
 use crate::fault::is_at_fault;
 use crate::replay::replay;
 use commit::Core;
 use disk::Disk;
-use machine::{Machine, reached_goes_on};
+use machine::{Machine, Marks, reached_goes_on};
 use std::alloc::{AllocError, Global};
 use std::sync::Arc;
 use steptree::ends_once;
@@ -53,7 +52,7 @@ impl Progress for () {
 }
 
 /// Whether what a store holds is what its graph's steps can have come to: `Ok` exactly if some legal events lead there, unless memory is refused. It trusts no mark of the store:
-/// it runs the body of each instance that is done there once, or, where it has to wait for an item, up to that item and then anew.
+/// it runs the body of each instance that is done there to its end, or, where an item was not replayed so far, up to that item and then anew.
 pub fn verify<D: Disk, P: Progress>(
     alloc: Global,
     core: &Core<D>,
@@ -75,16 +74,16 @@ fn certify<P: Progress>(alloc: Global, store: &Machine, progress: &mut P) -> Res
     ensures genuine { IsReached store.now.graph (environment store.now) (facts store.now) → IfErr result (λ why. why ≡ NoMemory) }
     ensures working { result ≡ Err Halted → ⊥ }
 {
-    let mut made = begin(alloc, store)?;
-    replay(alloc, store, &mut made, progress)?;
-    compare(alloc, store, &mut made)
+    let mut marks = store.marks(alloc)?;
+    begin(store, &mut marks);
+    replay(alloc, store, &mut marks, progress)?;
+    compare(alloc, store, &marks)
 }
 
-// Compares a store with what was replayed of it.
-fn compare(alloc: Global, store: &Machine, made: &mut Machine) -> Result<(), VerifyError>
-    requires replayed { IsReplayed store.now made.old }
-    requires left_out { AreLeftOut store.now made.old }
-    requires all { NoneIsReady made.old }
+// Tells the first of a store that was not replayed, or its fault if that cannot come.
+fn compare(alloc: Global, store: &Machine, marks: &Marks<'_>) -> Result<(), VerifyError>
+    requires replayed { IsReplayed store.now marks.now }
+    requires stuck { AreStuck store.now marks.now }
     ensures certified { OnOk result (IsReached store.now.graph (environment store.now) (facts store.now)) }
     ensures genuine { IsReached store.now.graph (environment store.now) (facts store.now) → IfErr result (λ why. why ≡ NoMemory) }
     ensures working { result ≡ Err Halted → ⊥ }
@@ -93,14 +92,13 @@ fn compare(alloc: Global, store: &Machine, made: &mut Machine) -> Result<(), Ver
     reached_goes_on();
     ends_once();
     store.is_kept();
-    made.is_kept();
-    if let Some(inst) = instance_left(store, made) {
+    if let Some(inst) = marks.first_done_left() {
         return Err(VerifyError::Instance(inst));
     }
-    if let Some(addr) = item_left(store, made) {
+    if let Some(addr) = marks.first_item_left() {
         return Err(VerifyError::Item(addr));
     }
-    if let Some(tag) = tag_left(store, made) {
+    if let Some(tag) = marks.first_tag_left() {
         return Err(VerifyError::Tag(tag));
     }
     let Some((inst, kind)) = store.fault() else {
@@ -108,7 +106,7 @@ fn compare(alloc: Global, store: &Machine, made: &mut Machine) -> Result<(), Ver
     };
     let graph = Arc::clone(store.graph())?;
     let at_fault = inst;
-    if is_at_fault(alloc, &graph, made, at_fault, kind)? {
+    if is_at_fault(alloc, store, &graph, marks, at_fault, kind)? {
         Ok(())
     } else {
         Err(VerifyError::Instance(inst))

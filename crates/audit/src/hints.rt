@@ -1,10 +1,14 @@
 use maps::Hint;
 
-/// Roughly where the last item, tag and finished instance of a store were looked up. The next ones are looked up there first: bodies are run anew about in the order in which
-/// the store holds what they put.
+/// Roughly where the last item, tag and finished instance of a store were looked up. The next ones are looked up there first: instances are tried in the order in which
+/// the store holds them, and put about in that order what it holds.
 #[derive(Drop)]
 pub(crate) struct Hints {
+    // The items that bodies read, and those that they put.
+    pub(crate) reads: Hint,
     pub(crate) items: Hint,
+    // The tags that prescribe instances, and those that they put.
+    pub(crate) prescribers: Hint,
     pub(crate) tags: Hint,
     pub(crate) done: Hint,
 }
@@ -13,7 +17,9 @@ impl Hints {
     /// Nothing was looked up yet.
     pub(crate) fn new() -> Self {
         Hints {
+            reads: Hint::new(),
             items: Hint::new(),
+            prescribers: Hint::new(),
             tags: Hint::new(),
             done: Hint::new(),
         }

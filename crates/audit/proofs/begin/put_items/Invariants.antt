@@ -1,7 +1,0 @@
-use Rattle.audit.specs.Replayed.{IsBegun}
-use Rattle.audit.proofs.Beginning.{GivenItem, HasGivenItem}
-use Rattle.audit.proofs.Left.{Left}
-use Rattle.audit.proofs.begin.put_items.Given as goal
-
-abbrev pub invariant-loop-addr : goal.invariant-loop-addr
-invariant-loop-addr l = IsBegun l.fn.store l.made × Left (GivenItem l.fn.store) (HasGivenItem l.made) l.addr-iterator
