@@ -1,8 +1,8 @@
 //! The error output on a terminal, and the text at which it points.
-use crate::progress::Certifying;
+use crate::progress::{Certifying, clear};
 use cli::Errors;
-use std::alloc::Global;
 use std::io::{self, Eprint, Read, Stderr, Write};
+use std::sync::atomic::AtomicU64;
 use std::time::Clock;
 
 // How many characters of a line are shown before the caret at most, and how many in all.
@@ -99,24 +99,30 @@ impl<'a, H: Clock + Eprint> Errors for Console<'a, H> {
     }
 }
 
-/// A reader that keeps what it has read.
+/// A reader that keeps what it has read. It clears the progress from the screen before it reads, since a person may type
+/// there.
 #[derive(Drop)]
 pub(crate) struct Kept<'a, R: Read> {
+    rt: HostRuntime,
     inner: &'a mut R,
     text: Vec<u8>,
+    // As that of `Telling`.
+    shown: &'a AtomicU64,
 }
 
 impl<'a, R: Read> Kept<'a, R> {
-    pub(crate) fn new(alloc: Global, inner: &'a mut R) -> Self {
+    pub(crate) fn new(rt: HostRuntime, inner: &'a mut R, shown: &'a AtomicU64) -> Self {
         Kept {
+            rt,
             inner,
-            text: Vec::new(alloc),
+            text: Vec::new(rt.alloc()),
+            shown,
         }
     }
 
     /// Prints the line of a place, and below it a caret and what is wrong. The caret is under the column or, if that is
     /// not known, under the first character that is not blank. Of a long line only the part near the caret is printed.
-    pub(crate) fn point(&self, rt: &HostRuntime, place: Place) {
+    pub(crate) fn point(&self, place: Place) {
         let Place { line, column, hint } = place;
         let text = str::from_utf8(self.text.as_slice()).unwrap_or("");
         let Some(line) = text.split('\n').nth(line.saturating_sub(1)) else {
@@ -125,21 +131,22 @@ impl<'a, R: Read> Kept<'a, R> {
         let blanks = line.len() - line.trim_start().len();
         let column = if column == 0 { blanks } else { column - 1 };
         let left_out = column.saturating_sub(MOST_BEFORE);
-        let _ = write!(rt.stderr(), "  ");
+        let _ = write!(self.rt.stderr(), "  ");
         for letter in line.chars().skip(left_out).take(MOST_SHOWN) {
-            let _ = write!(rt.stderr(), "{letter}");
+            let _ = write!(self.rt.stderr(), "{letter}");
         }
-        let _ = write!(rt.stderr(), "\n  ");
+        let _ = write!(self.rt.stderr(), "\n  ");
         for letter in line.chars().skip(left_out).take(column - left_out) {
             let blank = if letter == '\t' { "\t" } else { " " };
-            let _ = write!(rt.stderr(), "{blank}");
+            let _ = write!(self.rt.stderr(), "{blank}");
         }
-        let _ = writeln!(rt.stderr(), "^ {hint}");
+        let _ = writeln!(self.rt.stderr(), "^ {hint}");
     }
 }
 
 impl<'a, R: Read> Read for Kept<'a, R> {
     fn read(&mut self, buf: &mut [u8]) -> io::Result<usize> {
+        clear(&self.rt, self.shown);
         let count = self.inner.read(buf)?;
         let read = buf.get(..count).unwrap_or(&[]);
         match self.text.extend_from_slice(read) {

@@ -4,6 +4,7 @@
 ghost use Rattle.cli.specs.Words.{IsInRange};
 
 mod console;
+mod opening_bar;
 mod progress;
 
 use clap::Error;
@@ -11,6 +12,7 @@ use clap::error::ErrorKind;
 use cli::{Command, collect_words, obey, read_words, usage_status};
 use console::{Console, Kept};
 use disk::{Disk, DiskError, FileDisk, MemDisk};
+use opening_bar::{Bar, Opening};
 use pool::{AlwaysGo, Crew, Driver, Probe};
 use progress::{Certifying, Cleared, Telling};
 use std::env;
@@ -20,7 +22,6 @@ use std::marker::Sync;
 use std::path::Path;
 use std::process::ExitCode;
 use std::sync::Wait;
-use std::sync::atomic::AtomicU64;
 use std::thread::Threads;
 use std::time::Clock;
 
@@ -29,21 +30,20 @@ trait Handles: Threads + Wait + Sync + Clock + Eprint {}
 
 impl<H: Threads + Wait + Sync + Clock + Eprint> Handles for H {}
 
-/// A disk that may keep what the system returned for the last call that it refused.
+/// A disk that may keep what the system returned for the last call that it refused, and may show how much of a file is read.
 trait Refusing {
     fn refused_for(&self) -> Option<io::Error>;
-}
 
-impl Refusing for FileDisk {
-    fn refused_for(&self) -> Option<io::Error> {
-        self.cause()
-    }
+    /// Shows from now on how much of a long read is done.
+    fn show(&mut self, bar: Bar);
 }
 
 impl Refusing for MemDisk {
     fn refused_for(&self) -> Option<io::Error> {
         None
     }
+
+    fn show(&mut self, _bar: Bar) {}
 }
 
 // The statuses: a file cannot be read; a device, memory or an output failed.
@@ -116,7 +116,7 @@ fn with_disk<R: Read, H: Handles>(
         let _ = fs::create_dir(rt, directory);
     }
     match opened(rt, command) {
-        Ok(disk) => pointed(rt, threads, command, disk, input),
+        Ok(disk) => pointed(rt, threads, command, Opening::new(disk), input),
         Err(DiskError::Device) => no_directory(rt, command.directory()),
         Err(DiskError::NoMemory) => refused(rt, "no memory"),
     }
@@ -146,12 +146,12 @@ fn changes_nothing(command: &Command<'_>) -> bool {
 }
 
 // Does a command on a disk, with a crew for its steps. If the error output is a terminal, it points at a fault, shows
-// the progress of a long run and of a long certificate, and says why the system refused a call.
+// the progress of a long opening, run and certificate, and says why the system refused a call.
 fn pointed<D: Disk + Refusing + Send + Drop, R: Read, H: Handles>(
     rt: &HostRuntime,
     threads: &H,
     command: &Command<'_>,
-    disk: D,
+    mut disk: D,
     input: &mut R,
 ) -> u8
     requires { IsInRange command.now }
@@ -165,10 +165,13 @@ fn pointed<D: Disk + Refusing + Send + Drop, R: Read, H: Handles>(
         let mut err = Console::plain(rt);
         return done(rt, command, disk, input, &mut out, &mut err, &driver).0;
     }
-    let shown = AtomicU64::new(0);
+    let Ok((bar, shown)) = Bar::new(*rt) else {
+        return refused(rt, "no memory");
+    };
+    disk.show(bar);
     let telling = Telling::new(threads, workers, &shown);
     let driver = Driver::Crew(Crew::new(threads, workers, telling));
-    let mut input = Kept::new(rt.alloc(), input);
+    let mut input = Kept::new(*rt, input, &shown);
     let Ok(mut out) = BufWriter::new(rt.alloc(), Cleared::new(threads, rt.stdout(), &shown)) else {
         return refused(rt, "no memory");
     };
@@ -176,7 +179,7 @@ fn pointed<D: Disk + Refusing + Send + Drop, R: Read, H: Handles>(
     let mut err = Console::on_terminal(rt, certifying, wants_colours(rt));
     let (status, cause) = done(rt, command, disk, &mut input, &mut out, &mut err, &driver);
     if let Some(place) = err.place() {
-        input.point(rt, place);
+        input.point(place);
     }
     if let Some(cause) = cause {
         let _ = writeln!(rt.stderr(), "  {cause}");

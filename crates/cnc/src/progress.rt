@@ -10,13 +10,20 @@ use terms::Inst;
 const BETWEEN: u64 = 64;
 
 // The milliseconds since a moment; 0 if the clock fails.
-fn milliseconds_since<R: Clock>(rt: &R, moment: &Option<Instant>) -> u64 {
+pub(crate) fn milliseconds_since<R: Clock>(rt: &R, moment: &Option<Instant>) -> u64 {
     let Some(moment) = moment else {
         return 0;
     };
     match moment.elapsed(rt) {
         Ok(elapsed) => u64::try_from(elapsed.as_millis()).unwrap_or(0),
         Err(_) => 0,
+    }
+}
+
+/// Clears the progress from the screen, if it stands there.
+pub(crate) fn clear<R: Eprint>(rt: &R, shown: &AtomicU64) {
+    if shown.swap(0, Ordering::Relaxed) > 0 {
+        let _ = eprint!(rt; "\r\u{1b}[K");
     }
 }
 
@@ -126,9 +133,7 @@ impl<'a, R: Clock + Eprint> Certifying<'a, R> {
 
     /// Clears the count from the screen.
     pub(crate) fn clear(&self) {
-        if self.shown.swap(0, Ordering::Relaxed) > 0 {
-            let _ = eprint!(self.rt; "\r\u{1b}[K");
-        }
+        clear(self.rt, self.shown);
     }
 }
 
@@ -148,9 +153,7 @@ impl<'a, R, W> Cleared<'a, R, W> {
 
 impl<'a, R: Eprint, W: Write> Write for Cleared<'a, R, W> {
     fn write(&mut self, buf: &[u8]) -> io::Result<usize> {
-        if self.shown.swap(0, Ordering::Relaxed) > 0 {
-            let _ = eprint!(self.rt; "\r\u{1b}[K");
-        }
+        clear(self.rt, self.shown);
         self.inner.write(buf)
     }
 
