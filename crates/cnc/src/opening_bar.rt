@@ -1,6 +1,7 @@
 //! How much of a store is read, shown on a terminal while it is opened.
-ghost use Rattle.std.specs.Prelude.{[], false};
+ghost use Rattle.std.specs.Prelude.{◌≡◌, ◌≤◌, ◌+◌, [], false, length, take, drop, IsTrue, OnOk};
 ghost use Rattle.std.proofs.lemmas.Bool.{false≢true};
+ghost use Rattle.disk.specs.declared.side.Side.{Side};
 ghost use Rattle.disk.specs.File.{settled};
 ghost use Rattle.disk.specs.Time.{HasCause, CountsRefusal};
 
@@ -31,12 +32,12 @@ const BETWEEN: u64 = 100;
 #[derive(Drop)]
 pub(crate) struct Bar {
     rt: HostRuntime,
-    // As that of `Telling`. It is shared, since a disk that refers to something cannot be given to workers.
+    // As that of `Telling`. A call that passes a disk with a reference on is not covered by the checker, so this is none.
     shown: Arc<AtomicU64>,
 }
 
 impl Bar {
-    /// With whether a progress stands on the screen, for all that shows or clears one.
+    /// It comes with the word for whether a progress stands on the screen, for all that shows or clears one.
     pub(crate) fn new(rt: HostRuntime) -> Result<(Self, Arc<AtomicU64>), AllocError> {
         let shown = Arc::new(rt.alloc(), AtomicU64::new(0))?;
         let bar = Bar {
@@ -44,6 +45,16 @@ impl Bar {
             shown: Arc::try_clone(&shown)?,
         };
         Ok((bar, shown))
+    }
+
+    // Says how much of a file is read, if it is time to, and returns when it is time again, in milliseconds since it was begun.
+    fn tell_in_time(&self, begun: &Option<Instant>, next: u64, read: usize, all: usize) -> u64 {
+        let now = milliseconds_since(&self.rt, begun);
+        if now < next {
+            return next;
+        }
+        self.tell(read, all);
+        now.saturating_add(BETWEEN)
     }
 
     // Says how much of a file is read.
@@ -57,7 +68,7 @@ impl Bar {
 
 /// Two real files. On a terminal a long read is made piece by piece, and shows how much is read.
 ///
-/// As of all real files, nothing is claimed about bytes.
+/// As of all real files, nothing is claimed about bytes; `read_shown` says what an honest disk would give.
 pub(crate) struct Opening {
     disk: FileDisk,
     bar: Option<Bar>,
@@ -86,30 +97,32 @@ impl Refusing for Opening {
     }
 }
 
-// Fills the buffer piece by piece, and shows how much is read.
-fn read_shown(
-    disk: &mut FileDisk,
+// Reads what one call of the disk reads, piece by piece, and shows how much is read.
+fn read_shown<D: Disk>(
+    disk: &mut D,
     bar: &Bar,
     side: Side,
     at: u64,
     buffer: &mut [u8],
 ) -> Result<(), DiskError>
-    ensures cause { HasCause (⟦<FileDisk as Disk>⟧.failures disk.old) (⟦<FileDisk as Disk>⟧.failures disk.new) result }
-    ensures refused { CountsRefusal (⟦<FileDisk as Disk>⟧.refusals disk.old) (⟦<FileDisk as Disk>⟧.refusals disk.new) result }
+    requires { IsTrue D.is_honest → at + length buffer.old ≤ length (D.files disk.old side).content }
+    ensures value { IsTrue D.is_honest → OnOk result (buffer.new ≡ take (length buffer.old) (drop at (D.files disk.old side).content)) }
+    ensures same { IsTrue D.is_honest → (each : Side) → D.files disk.new each ≡ D.files disk.old each }
+    ensures cause { HasCause (D.failures disk.old) (D.failures disk.new) result }
+    ensures refused { CountsRefusal (D.refusals disk.old) (D.refusals disk.new) result }
 {
     let all = buffer.len();
+    if at.checked_add(all as u64).is_none() {
+        return disk.read(side, at, buffer);
+    }
     let begun = Instant::now(&bar.rt).ok();
     let mut read = 0;
     let mut next = FIRST;
-    for piece in buffer.chunks_mut(PIECE) {
-        // A range that ends past what can be counted is refused.
-        disk.read(side, at.saturating_add(read as u64), piece)?;
-        read = all.min(piece.len().saturating_add(read));
-        let now = milliseconds_since(&bar.rt, &begun);
-        if now >= next {
-            bar.tell(read, all);
-            next = now.saturating_add(BETWEEN);
-        }
+    while read < all {
+        let end = read + PIECE.min(all - read);
+        disk.read(side, at + read as u64, &mut buffer[read..end])?;
+        read = end;
+        next = bar.tell_in_time(&begun, next, read, all);
     }
     if next > FIRST || all >= LONGEST {
         bar.tell(all, all);
