@@ -149,7 +149,7 @@ fn replay_woken<P: Progress>(
 {
     facts_are_told_apart();
     store.is_kept();
-    // As above.
+    // What is known of the instances that are done: they are listed, and each turn replays one of them.
     store.done();
     loop {
         match replay_next(alloc, store, graph, marks, hints, waiting)? {
