@@ -21,24 +21,10 @@ use Rattle.audit.proofs.Stated.{never}
 
 -- ---- whether something is marked
 
-pub done_told : (has is b : Bool) → Some b ≡ cond has (Some is) None → b ≡ is
-done_told true is b same = cc
-done_told false is b same = cc
-
 pub not_done : (has is : Bool) → (is ≡ true → has ≡ true) → None ≡ cond has (Some is) None → false ≡ is
 not_done true is part same = absurd (cc)
 not_done false true part same = absurd (false≢true (part refl))
 not_done false false part same = refl
-
-pub tag_told : (o : Option Bool) (is given b : Bool) → ◌≡◌ {A = Option (Bool × Bool)} (Some (given, b)) (option_map (λ (g : Bool). (g, is)) o) → b ≡ is
-tag_told None is given b same = absurd (cc)
-tag_told (Some g) is given b same = last (inside same)
-  where
-    inside : ◌≡◌ {A = Option (Bool × Bool)} (Some (given, b)) (Some (g, is)) → ◌≡◌ {A = Bool × Bool} (given, b) (g, is)
-    inside same = cc
-
-    last : ◌≡◌ {A = Bool × Bool} (given, b) (g, is) → b ≡ is
-    last pair = λ i. (pair i).1
 
 pub no_tag : (o : Option Bool) (is : Bool) → (is ≡ true → is_some o ≡ true) → ◌≡◌ {A = Option (Bool × Bool)} None (option_map (λ (g : Bool). (g, is)) o) → false ≡ is
 no_tag o true part same = absurd (none o (part refl) same)

@@ -34,7 +34,7 @@ pub(crate) fn replay<P: Progress>(
     store.done();
     let graph = Arc::clone(store.graph())?;
     let mut hints = Hints::new();
-    let mut sweeps = 0;
+    let mut sweeps_left = MOST_SWEEPS;
     loop {
         if marks.first_done_left().is_none() {
             return Ok(());
@@ -48,7 +48,7 @@ pub(crate) fn replay<P: Progress>(
             &graph,
             marks,
             &mut hints,
-            &mut sweeps,
+            &mut sweeps_left,
             progress,
         )?;
     }
@@ -87,14 +87,14 @@ fn sweep<P: Progress>(
     Ok(is_one)
 }
 
-// After a sweep: counts it, or lets instances wait if there were enough of them.
+// After a sweep: counts it. If there were `MOST_SWEEPS`, it lets instances wait for one another.
 fn replay_between<P: Progress>(
     alloc: Global,
     store: &Machine,
     graph: &Graph,
     marks: &mut Marks<'_>,
     hints: &mut Hints,
-    sweeps: &mut u32,
+    sweeps_left: &mut u32,
     progress: &mut P,
 ) -> Result<(), AllocError>
     requires graph { graph.now ≡ store.now.graph }
@@ -102,8 +102,8 @@ fn replay_between<P: Progress>(
     ensures replayed { OnOk result (IsReplayed store.now marks.new) }
     ensures grows { OnOk result (Grows marks.old marks.new) }
 {
-    if *sweeps < MOST_SWEEPS {
-        *sweeps += 1;
+    *sweeps_left = sweeps_left.saturating_sub(1);
+    if *sweeps_left > 0 {
         return Ok(());
     }
     replay_waiting(alloc, store, graph, marks, hints, progress)
@@ -149,7 +149,7 @@ fn replay_woken<P: Progress>(
 {
     facts_are_told_apart();
     store.is_kept();
-    // As above.
+    // What is known of the instances that are done: they are listed, and each turn replays one of them.
     store.done();
     loop {
         match replay_next(alloc, store, graph, marks, hints, waiting)? {
