@@ -25,6 +25,18 @@ BEGIN {
     last = y(time[3] / time[1])
     printf "<path d=\"M%g %g L%g %g L%g %g\" fill=\"none\" stroke=\"%s\" stroke-width=\"2\"/>\n", \
         x(1), y(1), x(2), y(time[2] / time[1]), x(4), last, colour[count]
-    printf "<text x=\"330\" y=\"%g\" fill=\"%s\">%s</text>\n", last + 4, colour[count], part[1]
+    place[count] = last + 4
+    name[count] = part[1]
 }
-END { print "</svg>" }' workers >workers.svg
+# The names stand beside the ends of their lines, the lowest line first, and at least 15 apart.
+END {
+    above = 280
+    for (i = 1; i <= count; i++) {
+        lowest = 0
+        for (j = 1; j <= count; j++) if (!(j in done) && (!lowest || place[j] > place[lowest])) lowest = j
+        done[lowest] = 1
+        above = place[lowest] < above - 15 ? place[lowest] : above - 15
+        printf "<text x=\"330\" y=\"%g\" fill=\"%s\">%s</text>\n", above, colour[lowest], name[lowest]
+    }
+    print "</svg>"
+}' workers >workers.svg
