@@ -6,7 +6,7 @@ top=$(cd "$(dirname "$0")/.." && pwd)
 room=$(mktemp -d)
 trap 'rm -rf "$room"' EXIT
 mkdir "$room/.git"
-cp -R "$top/crates" "$top/crates.txt" "$top/HANDLES" "$room"
+tar -C "$top" --exclude="crates/*/out" -cf - crates crates.txt HANDLES | tar -C "$room" -xf -
 cd "$room"
 rm -rf crates/*/must-fail crates/*/out
 if [ $# -eq 0 ]; then
