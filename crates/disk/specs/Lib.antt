@@ -8,4 +8,5 @@ pub mod MemDisk
 pub mod Moments
 pub mod Settled
 pub mod Side
+pub mod Storage
 pub mod Time

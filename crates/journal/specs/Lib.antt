@@ -2,5 +2,4 @@ pub mod Errors
 pub mod Journal
 pub mod Places
 pub mod Records
-pub mod Staged
 pub mod WholeRecords

@@ -1,4 +1,4 @@
-ghost use Rattle.std.specs.Prelude.{◌≡◌, ◌≤◌, ◌↔◌, [], length, drop, IsTrue, IfOk, MatchOption};
+ghost use Rattle.std.specs.Prelude.{◌≡◌, ◌≤◌, ◌<◌, ◌+◌, ◌^◌, ◌↔◌, ◌++◌, [], length, take, drop, replicate, IsTrue, IfOk, OnOk, MatchOption};
 ghost use Rattle.journal.specs.WholeRecords.{BeginsWith, BeginsWithNone, IsRecordAt, LeadsTo};
 ghost use Rattle.journal.specs.Places.{payloads_at, AreWithin};
 ghost use Rattle.journal.specs.Records.{record_of, StandsFor};
@@ -18,6 +18,27 @@ pub fn record_length(payload: &[u8]) -> u64
     ensures { result ≡ length (record_of payload.now) }
 {
     HEAD as u64 + payload.len() as u64
+}
+
+/// Begins a record: adds room for its gate and its length, behind which the payload is to be added. Returns its place, for `end_record`.
+pub fn begin_record(out: &mut Vec<u8>) -> Result<usize, AllocError>
+    ensures room { OnOk result (out.new.items ≡ out.old.items ++ replicate 5 0) }
+    ensures place { IfOk result (λ place. place ≡ length out.old.items) }
+{
+    let place = out.len();
+    out.extend_from_slice(&[0; HEAD])?;
+    Ok(place)
+}
+
+/// Ends a record that began at a place: all that was added behind its room is its payload. Its gate is open.
+pub fn end_record(out: &mut Vec<u8>, place: usize)
+    requires room { place + 5 ≤ length out.old.items }
+    requires short { length out.old.items < place + 5 + 2 ^ 32 }
+    ensures { out.new.items ≡ take place out.old.items ++ record_of (drop (place + 5) out.old.items) }
+{
+    let count = (out.len() - place - HEAD) as u32;
+    out[place] = OPEN;
+    LittleEndian::write_u32(&mut out[place + 1..place + HEAD], count);
 }
 
 /// The payload of the record at the front of the bytes, if all of the record and the gate after it are there.

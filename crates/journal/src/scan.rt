@@ -1,6 +1,7 @@
 ghost use Rattle.std.specs.Prelude.{◌≡◌, ◌≢◌, ◌≤◌, ◌<◌, ◌+◌, ◌^◌, ◌↔◌, ℕ, List, drop, vec_len, IsTrue, IfOk, IsErrOf};
 ghost use Rattle.disk.specs.declared.side.Side.{Side};
-ghost use Rattle.disk.specs.Time.{LeavesOnly, MayLeaveNow, HasCause, HasCauses};
+ghost use Rattle.disk.specs.Storage.{KeepsFiles, ReportsAs};
+ghost use Rattle.disk.specs.Time.{HasCause};
 ghost use Rattle.journal.specs.Records.{StandsFor};
 ghost use Rattle.journal.specs.declared.error.JournalError.TheVariants.{Device, NoMemory, Damaged, Full};
 ghost use Rattle.disk.specs.declared.error.DiskError.TheVariants as DiskError;
@@ -11,7 +12,7 @@ use disk::{Disk, DiskError, Side};
 use std::alloc::Global;
 
 impl Journal {
-    ghost use Rattle.journal.specs.Journal.{IsAt, BreaksAt};
+    ghost use Rattle.journal.specs.Journal.{IsAt, IsBroken};
 
     /// Reads the journal that begins at a position of a file, and the payloads of its records.
     ///
@@ -29,13 +30,9 @@ impl Journal {
         ensures side { IfOk result (λ r. r.0.side ≡ side) }
 
         // It returns `Damaged` exactly if the bytes stand for no payloads.
-        ensures damaged { IsTrue D.is_honest → (place : ℕ) → IsErrOf result (Damaged place) → BreaksAt at (D.files disk.old side).content place }
-        ensures nothing { IsTrue D.is_honest → (place : ℕ) → IsErrOf result (Damaged place) → (payloads : List (List ℕ)) → StandsFor (drop at (D.files disk.old side).content) payloads → ⊥ }
-        ensures full { IsErrOf result Full → ⊥ }
-        ensures causes { HasCauses D.failures D.refusals Device NoMemory disk.old disk.new result }
-
-        ensures same { IsTrue D.is_honest → (each : Side) → D.files disk.new each ≡ D.files disk.old each }
-        ensures any_moment { IsTrue D.is_honest → LeavesOnly D.moment D.left_at disk.old disk.new (MayLeaveNow (D.files disk.old)) }
+        ensures damaged { IsTrue D.is_honest → (place : ℕ) → IsErrOf result (Damaged place) → IsBroken at (D.files disk.old side).content place }
+        ensures causes { ReportsAs D.Disk Device NoMemory disk.old disk.new result × (IsErrOf result Full → ⊥) }
+        ensures kept { IsTrue D.is_honest → KeepsFiles D.Disk disk.old disk.new }
     {
         let bytes = read_from(alloc, disk, side, at)?;
         let found = find_records(alloc, &bytes)?;
@@ -44,7 +41,7 @@ impl Journal {
             return Err(JournalError::Damaged(end));
         }
         Ok((
-            Journal::ending(alloc, side, end),
+            Journal { side, end },
             Payloads::at(bytes, found.places),
         ))
     }
@@ -61,8 +58,7 @@ fn read_from<D: Disk>(
     ensures fits { IfOk result (λ bytes. at + vec_len bytes < 2 ^ 64) }
     ensures cause { HasCause (D.failures disk.old) (D.failures disk.new) result }
     ensures refusals { D.refusals disk.new ≢ D.refusals disk.old → IsErrOf result DiskError.NoMemory }
-    ensures same { IsTrue D.is_honest → (each : Side) → D.files disk.new each ≡ D.files disk.old each }
-    ensures any_moment { IsTrue D.is_honest → LeavesOnly D.moment D.left_at disk.old disk.new (MayLeaveNow (D.files disk.old)) }
+    ensures kept { IsTrue D.is_honest → KeepsFiles D.Disk disk.old disk.new }
 {
     let end = disk.len(side)?;
     if end <= at {

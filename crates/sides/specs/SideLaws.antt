@@ -1,13 +1,14 @@
 -- The laws of a side that a store uses: what bytes that begin as a side does stand for, and what makes a side.
 use Rattle.std.specs.Prelude.{◌≡◌, ◌<◌, ◌+◌, ◌^◌, ℕ, List, [], ◌∷◌, ◌++◌, length, map, take, drop}
-use Rattle.terms.specs.Commits.{Commit}
+use Rattle.std.specs.List.{AllByRecursion}
+use Rattle.terms.specs.Commits.{Commit, events_of}
 use Rattle.terms.specs.Facts.{facts, environment}
 use Rattle.terms.specs.Sets.{Facts, with_facts}
 use Rattle.codec.specs.declared.image.Image.{Image}
 use Rattle.codec.specs.Commits.{commit_bytes, IsCommit}
 use Rattle.codec.specs.Spelling.{image_bytes, IsImage}
 use Rattle.codec.specs.Image.{facts_in, environment_in}
-use Rattle.journal.specs.Records.{StandsFor, record_of}
+use Rattle.journal.specs.Records.{StandsFor, records}
 use Rattle.graph.specs.Graph.{Graph}
 use Rattle.graph.specs.Canonical.{canonical}
 use Rattle.graph.specs.Reads.{Reads}
@@ -28,12 +29,12 @@ StaysAlike = (bytes other : List ℕ) (g : Graph) (generation : ℕ) (E X : Fact
     → take (start_of side) other ≡ take (start_of side) bytes → StandsFor (drop (start_of side) other) (map commit_bytes side.commits)
     → (same : IsSide other g generation E X) × (end_of same ≡ end_of side)
 
--- those that go on with a journal of one commit more, whose events fit, stand for what that commit leaves
-abbrev pub GrowsByCommit : Type 0
-GrowsByCommit = (bytes other : List ℕ) (g : Graph) (generation : ℕ) (E X : Facts) (side : IsSide bytes g generation E X) (commit : Commit)
-    → IsCommit MAX_COMPONENTS commit → AllFit g (facts_of side) commit
-    → take (start_of side) other ≡ take (start_of side) bytes → StandsFor (drop (start_of side) other) (map commit_bytes side.commits ++ commit_bytes commit ∷ [])
-    → (grown : IsSide other g generation (with_facts E (environment commit)) (with_facts X (facts commit))) × (end_of grown ≡ end_of side + length (record_of (commit_bytes commit)))
+-- those that go on with a journal of these commits more, whose events fit one after another, stand for what the commits leave
+abbrev pub GrowsByCommits : Type 0
+GrowsByCommits = (bytes other : List ℕ) (g : Graph) (generation : ℕ) (E X : Facts) (side : IsSide bytes g generation E X) (added : List Commit)
+    → AllByRecursion (IsCommit MAX_COMPONENTS) added → AllFit g (facts_of side) (events_of added)
+    → take (start_of side) other ≡ take (start_of side) bytes → StandsFor (drop (start_of side) other) (map commit_bytes side.commits ++ map commit_bytes added)
+    → (grown : IsSide other g generation (with_facts E (environment (events_of added))) (with_facts X (facts (events_of added)))) × (end_of grown ≡ end_of side + length (records (map commit_bytes added)))
 
 -- a side that stands for some sets of facts stands for equal sets too
 abbrev pub SideAsSet : Type 0

@@ -1,6 +1,6 @@
 //! The laws of what a side stands for. Each is a contract, with nothing to run.
 ghost use Rattle.sides.specs.Side.{OneMeaning, StandsWithGeneration, OneGeneration, AnyRest};
-ghost use Rattle.sides.specs.SideLaws.{HasJournal, StaysAlike, GrowsByCommit, SideAsSet, SideFits, BeginsSide, HeldOnce};
+ghost use Rattle.sides.specs.SideLaws.{HasJournal, StaysAlike, GrowsByCommits, SideAsSet, SideFits, BeginsSide, HeldOnce};
 
 use codec::{spellings_of_commits, spellings_of_images};
 use graph::{fitting, one_reading};
@@ -23,11 +23,11 @@ pub fn one_meaning_of_a_side()
 }
 
 /// What a side's bytes stand for when other bytes follow its image: a journal of the same commits gives the same, a journal
-/// of one commit more gives what that commit leaves. The facts of a side fit its graph, and an image that fits makes a side.
+/// of some commits more gives what these leave. The facts of a side fit its graph, and an image that fits makes a side.
 pub fn sides_go_on()
     ensures journal { HasJournal }
     ensures alike { StaysAlike }
-    ensures grows { GrowsByCommit }
+    ensures grows { GrowsByCommits }
     ensures as_set { SideAsSet }
     ensures fits { SideFits }
     ensures begins { BeginsSide }

@@ -1,9 +1,14 @@
 -- What the calls of a vault promise: why they return an error and why a vault halts, what a refusal leaves, and what is written.
-use Rattle.std.specs.Prelude.{◌≡◌, ◌≢◌, ◌⊎◌, ◌↔◌, ◌≤◌, ◌<◌, ◌+◌, ◌*◌, ◌++◌, ◌∷◌, [], ℕ, Bool, List, length, replicate, true, false, Result, IfOk, OnOk, OnErr, IfErr, IsErrOf}
+use Rattle.std.specs.Prelude.{◌≡◌, ◌≢◌, ◌⊎◌, ◌↔◌, ◌≤◌, ◌<◌, ◌+◌, ◌*◌, ◌++◌, ◌∷◌, [], ℕ, Bool, List, length, replicate, true, false, IsTrue, Result, IfOk, OnOk, OnErr, IfErr, IsErrOf}
 use Rattle.disk.specs.declared.side.Side.{Side}
 use Rattle.disk.specs.declared.side.Side.TheVariants.{A, B}
 use Rattle.disk.specs.File.{File, at_rest, overwritten}
-use Rattle.disk.specs.Time.{Contents, MayLeaveNow, LeavesOnly, HasCauses, HasErred, OtherStays}
+use Rattle.disk.specs.declared.storage.Disk.{Ghosts}
+use Rattle.disk.specs.Time.{MayLeaveNow, OtherStays}
+use Rattle.disk.specs.Storage.{Errs, Leaves, ReportsAs}
+use Rattle.terms.specs.Commits.{Commit}
+use Rattle.terms.specs.Facts.{facts, environment}
+use Rattle.graph.specs.Fits.{FitAfter}
 use Rattle.graph.specs.Graph.{Graph}
 use Rattle.graph.specs.Canonical.{canonical}
 use Rattle.graph.specs.Reads.{Reads}
@@ -12,13 +17,15 @@ use Rattle.vault.specs.declared.append.TheConstants.{FIRST_GROUND, GROUND}
 use Rattle.vault.specs.declared.vault.Vault.{Vault}
 use Rattle.vault.specs.declared.error.VaultError.{VaultError}
 use Rattle.vault.specs.declared.error.VaultError.TheVariants.{Device, NoMemory, Full, Halted, Exists}
-use Rattle.vault.specs.Stands.{other_side}
+use Rattle.vault.specs.Stands.{Stands, other_side}
+use Rattle.vault.specs.Opened.{contents_of}
+use Rattle.vault.specs.Groups.{records_of}
 use Rattle.codec.specs.declared.image.Image.{Image}
 use Rattle.codec.specs.Spelling.{SpellsImage, image_bytes}
 use Rattle.codec.specs.Image.{Lists}
-use Rattle.terms.specs.Sets.{Facts}
+use Rattle.terms.specs.Sets.{Facts, with_facts}
 use Rattle.terms.specs.declared.key.TheConstants.{MAX_COMPONENTS}
-use Rattle.vault.specs.Store.{Holds, IsSame, IsReady, new_side, empty, nothing}
+use Rattle.vault.specs.Store.{Holds, HasGates, IsLast, IsReady, IsSame, IsTooLong, StandsBeforeOrAfter, new_side, empty, nothing}
 
 -- ---- calls of a vault
 
@@ -27,12 +34,12 @@ abbrev pub IsOfCall : VaultError → Type 0
 IsOfCall error = (error ≡ Device) ⊎ (error ≡ NoMemory) ⊎ (error ≡ Full) ⊎ (error ≡ Halted)
 
 -- When a call halts: exactly if a call of the disk returned an error. What it returns then, and what another refusal leaves.
-pub record Halts {D T : Type 0} (failures refusals : D → ℕ) (old new : Vault D) (result : Result T VaultError) : Type 0 where
+pub record Halts {D T : Type 0} (storage : Ghosts D) (old new : Vault D) (result : Result T VaultError) : Type 0 where
   -- after the call the vault is halted exactly if it was before, or if a call of the disk returned an error
-  pub halts : (new.halted ≡ true) ↔ ((old.halted ≡ true) ⊎ HasErred failures refusals old.disk new.disk)
+  pub halts : (new.halted ≡ true) ↔ ((old.halted ≡ true) ⊎ Errs storage old.disk new.disk)
   -- a halted vault returns `Halted`, and makes no call of the disk
   pub halted : IsErrOf result Halted ↔ (old.halted ≡ true)
-  pub disk : HasCauses failures refusals Device NoMemory old.disk new.disk result
+  pub disk : ReportsAs storage Device NoMemory old.disk new.disk result
   -- if an error does not halt it, nothing changed
   pub same : OnErr result (new.halted ≡ old.halted → IsSame old new)
   pub causes : IfErr result IsOfCall
@@ -44,7 +51,14 @@ pub record IsFullWhere {T : Type 0} (halted : Bool) (cause : Type 0) (result : R
 
 -- ---- appends
 
--- How an append leaves the vault, on every disk: after `Ok` its journal ends after the record. The live side, the generation and the text stay.
+-- What an append of a commit does to a store, on an honest disk. After `Ok` the store holds it, too. A crash at any moment of the call leaves the state before
+-- the whole commit or the state after it; and if each file has a first byte, it leaves each file one.
+pub record Adds {D T : Type 0} (storage : Ghosts D) (old new : Vault D) (g : Graph) (E X : Facts) (commit : Commit) (result : Result T VaultError) : Type 0 where
+  pub added : FitAfter g X commit → OnOk result (Holds storage.files new g (with_facts E (environment commit)) (with_facts X (facts commit)))
+  pub any_moment : FitAfter g X commit → Leaves storage old.disk new.disk (StandsBeforeOrAfter g E X commit)
+  pub gates : HasGates (contents_of (storage.files old.disk)) → Leaves storage old.disk new.disk HasGates
+
+-- How an append leaves the vault, on every disk: after `Ok` its journal ends after the records. The live side, the generation and the text stay.
 pub record Appended {D T : Type 0} (old new : Vault D) (bytes : List ℕ) (result : Result T VaultError) : Type 0 where
   pub working : OnOk result ((old.halted ≡ false) × (new.halted ≡ false))
   pub moved : OnOk result (new.journal.end ≡ old.journal.end + length bytes)
@@ -52,23 +66,30 @@ pub record Appended {D T : Type 0} (old new : Vault D) (bytes : List ℕ) (resul
   pub generation : new.generation ≡ old.generation
   pub text : new.text ≡ old.text
 
--- what an append lays behind the closed gate at `end`: nothing; or these bytes and then zeros, which end within the limit; and zeros only where
--- that gate does not lie below `FIRST_GROUND`
-abbrev pub LaysBehind : ℕ → List ℕ → List ℕ → Type 0
-LaysBehind end ahead behind = (behind ≡ []) ⊎ ((zeros : ℕ) × (behind ≡ ahead ++ replicate zeros 0) × (end + 1 + length behind ≤ LIMIT) × ((zeros ≡ 0) ⊎ (FIRST_GROUND ≤ end)))
+-- how many zeros an append may lay behind the closed gate at `end`: some that end within the limit, and only where that gate does not lie below `FIRST_GROUND`
+abbrev pub LaysBehind : ℕ → ℕ → Type 0
+LaysBehind end zeros = (zeros ≡ 0) ⊎ ((FIRST_GROUND ≤ end) × (end + 1 + zeros ≤ LIMIT))
 
--- zeros are not due behind a record of `count` bytes and the `ahead` bytes that are laid ahead of it: the gate that follows the record lies below `FIRST_GROUND`, or zeros
--- are known to lie up to `laid`, or both are too long for many to follow, or the limit is reached
-abbrev pub AreNotDue : (end count ahead laid : ℕ) → Type 0
-AreNotDue end count ahead laid = (end + count < FIRST_GROUND) ⊎ (end + count + ahead < laid) ⊎ (GROUND < (count + ahead) * 8) ⊎ (LIMIT ≤ end + count + ahead + 1)
+-- zeros are not due behind records of `count` bytes: the gate that follows them lies below `FIRST_GROUND`, or zeros are known to lie up to `laid`, or the
+-- records are too long for many to follow, or the limit is reached
+abbrev pub AreNotDue : (end count laid : ℕ) → Type 0
+AreNotDue end count laid = (end + count < FIRST_GROUND) ⊎ (end + count < laid) ⊎ (GROUND < count * 2) ⊎ (LIMIT ≤ end + count + 1)
 
--- What an append writes, on an honest disk: its record, a closed gate and what it lays behind it, over the gate that ended the journal of the
+-- What an append writes, on an honest disk: its records, a closed gate and zeros behind it, over the gate that ended the journal of the
 -- live side. The other file stays as it was, whatever is returned; and if the vault is not halted, it is ready for the next call.
-pub record WritesRecord {D T : Type 0} (files : D → Side → File) (old new : Vault D) (bytes ahead : List ℕ) (result : Result T VaultError) : Type 0 where
-  pub written : OnOk result ((behind : List ℕ) × LaysBehind new.journal.end ahead behind
-      × (files new.disk old.journal.side ≡ at_rest (overwritten (files old.disk old.journal.side).content old.journal.end (bytes ++ 0 ∷ behind))))
+pub record WritesRecords {D T : Type 0} (files : D → Side → File) (old new : Vault D) (bytes : List ℕ) (result : Result T VaultError) : Type 0 where
+  pub written : OnOk result ((zeros : ℕ) × LaysBehind new.journal.end zeros
+      × (files new.disk old.journal.side ≡ at_rest (overwritten (files old.disk old.journal.side).content old.journal.end (bytes ++ 0 ∷ replicate zeros 0))))
   pub other : OtherStays old.journal.side (files old.disk) (files new.disk)
   pub ready : new.halted ≡ false → IsReady files new
+
+-- What an append of a commit promises.
+pub record AppendsAs {D T : Type 0} (storage : Ghosts D) (old new : Vault D) (commit : Commit) (result : Result T VaultError) : Type 0 where
+  pub adds : IsTrue storage.is_honest → (g : Graph) (E X : Facts) → Holds storage.files old g E X → Adds storage old new g E X commit result
+  pub written : IsTrue storage.is_honest → WritesRecords storage.files old new (records_of commit) result
+  pub appended : Appended old new (records_of commit) result
+  pub full : IsFullWhere old.halted (LIMIT ≤ old.journal.end + length (records_of commit)) result
+  pub halting : Halts storage old new result
 
 -- ---- making a store
 
@@ -90,17 +111,30 @@ pub record IsCreated {D : Type 0} (files : D → Side → File) (text : List ℕ
 
 -- If the files are not both empty, on an honest disk: no store is made of them, both stay as they are, and a crash at any moment leaves what
 -- one might have left before. `Exists` says that one is not empty.
-pub record LeavesNonEmpty {D T : Type 0} (files : D → Side → File) (moment : D → ℕ) (left_at : D → ℕ → Contents → Type 0) (old new : D) (result : Result T VaultError) : Type 0 where
-  pub were_empty : OnOk result ((side : Side) → (files old side).content ≡ [])
-  pub exists : IsErrOf result Exists → ((files old A).content ≢ []) ⊎ ((files old B).content ≢ [])
-  pub kept : (some : Side) → (files old some).content ≢ [] → (side : Side) → files new side ≡ files old side
-  pub moments : (some : Side) → (files old some).content ≢ [] → LeavesOnly moment left_at old new (MayLeaveNow (files old))
+pub record LeavesNonEmpty {D T : Type 0} (storage : Ghosts D) (old new : D) (result : Result T VaultError) : Type 0 where
+  pub were_empty : OnOk result ((side : Side) → (storage.files old side).content ≡ [])
+  pub exists : IsErrOf result Exists → ((storage.files old A).content ≢ []) ⊎ ((storage.files old B).content ≢ [])
+  pub kept : (some : Side) → (storage.files old some).content ≢ [] → (side : Side) → storage.files new side ≡ storage.files old side
+  pub moments : (some : Side) → (storage.files old some).content ≢ [] → Leaves storage old new (MayLeaveNow (storage.files old))
+
+-- Why making a store is refused. All memory of its own is asked for before the first call of the disk.
+pub record RefusesToMake {D T : Type 0} (storage : Ghosts D) (old new : D) (result : Result T VaultError) : Type 0 where
+  pub errors : IfErr result (λ error. (error ≡ Exists) ⊎ (error ≡ NoMemory) ⊎ (error ≡ Device))
+  pub causes : ReportsAs storage Device NoMemory old new result
+  pub grown_first : IsErrOf result NoMemory → storage.refusals new ≡ storage.refusals old → new ≡ old
 
 -- ---- turnovers
 
 -- the bytes spell an image of these facts, of which the environment put E
 abbrev pub SpellsFacts : List ℕ → Facts → Facts → Type 0
 SpellsFacts bytes E X = (image : Image) × SpellsImage MAX_COMPONENTS bytes image × Lists image E X
+
+-- What a turnover with the bytes of an image does to a store, on an honest disk. If they spell what the store holds, it holds that after `Ok`; and if the other file has a first
+-- byte, a crash at any moment of the call leaves it. If each file has a first byte, a crash leaves each file one.
+pub record TurnsFor {D T : Type 0} (storage : Ghosts D) (old new : Vault D) (g : Graph) (E X : Facts) (image : List ℕ) (result : Result T VaultError) : Type 0 where
+  pub turned : SpellsFacts image E X → OnOk result (Holds storage.files new g E X)
+  pub any_moment : SpellsFacts image E X → (storage.files old.disk (other_side old.journal.side)).content ≢ [] → Leaves storage old.disk new.disk (λ contents. Stands contents g E X)
+  pub gates : HasGates (contents_of (storage.files old.disk)) → Leaves storage old.disk new.disk HasGates
 
 -- How a turnover with the bytes of an image leaves the vault, on every disk: after `Ok` the other side is live, one generation greater, and its journal ends at the
 -- last byte of the new side; after an error the side and the generation are those before. The text stays.
@@ -117,3 +151,9 @@ pub record WritesSide {D : Type 0} (files : D → Side → File) (old new : Vaul
   pub written : IfOk result (λ generation. files new.disk (other_side old.journal.side) ≡ at_rest (new_side generation old.text.items image))
   pub live : files new.disk old.journal.side ≡ files old.disk old.journal.side
   pub ready : new.halted ≡ false → IsReady files new
+
+-- Why a turnover is refused: also since it is of the greatest generation, or since the new side would be too long. `NoMemory` is the disk's.
+pub record RefusesTurn {D T : Type 0} (storage : Ghosts D) (old new : Vault D) (image : List ℕ) (result : Result T VaultError) : Type 0 where
+  pub last : old.halted ≡ false → IsLast old.generation → IsErrOf result Full
+  pub full : IsFullWhere old.halted (IsLast old.generation ⊎ IsTooLong (old.generation + 1) old.text.items image) result
+  pub no_memory : IsErrOf result NoMemory → storage.refusals new.disk ≢ storage.refusals old.disk

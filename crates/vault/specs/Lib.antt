@@ -1,7 +1,9 @@
 pub mod Calls
 pub mod Commits
 pub mod Errors
+pub mod Groups
 pub mod LiveSides
+pub mod Made
 pub mod Opened
 pub mod Stands
 pub mod Store

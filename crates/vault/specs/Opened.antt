@@ -4,7 +4,9 @@ use Rattle.std.specs.List.{AllByRecursion}
 use Rattle.disk.specs.declared.side.Side.{Side}
 use Rattle.disk.specs.declared.side.Side.TheVariants.{A, B}
 use Rattle.disk.specs.File.{File}
-use Rattle.disk.specs.Time.{Contents, MayLeaveNow, LeavesOnly}
+use Rattle.disk.specs.declared.storage.Disk.{Ghosts}
+use Rattle.disk.specs.Time.{Contents, MayLeaveNow}
+use Rattle.disk.specs.Storage.{Leaves}
 use Rattle.terms.specs.Sets.{Facts}
 use Rattle.graph.specs.Graph.{Graph}
 use Rattle.graph.specs.Canonical.{canonical}
@@ -28,10 +30,10 @@ contents_of files side = (files side).content
 -- ---- what calls that sync and read leave
 
 -- Reads return what they did before, and a crash at any moment of the calls, or after them, leaves what one might have left before.
-pub record OnlyReads {D : Type 0} (files : D → Side → File) (moment : D → ℕ) (left_at : D → ℕ → Contents → Type 0) (old new : D) : Type 0 where
-  pub reads : (side : Side) → (files new side).content ≡ (files old side).content
-  pub any_moment : LeavesOnly moment left_at old new (MayLeaveNow (files old))
-  pub left : (contents : Contents) → MayLeaveNow (files new) contents → MayLeaveNow (files old) contents
+pub record OnlyReads {D : Type 0} (storage : Ghosts D) (old new : D) : Type 0 where
+  pub reads : (side : Side) → (storage.files new side).content ≡ (storage.files old side).content
+  pub any_moment : Leaves storage old new (MayLeaveNow (storage.files old))
+  pub left : (contents : Contents) → MayLeaveNow (storage.files new) contents → MayLeaveNow (storage.files old) contents
 
 -- ---- what the heads say
 

@@ -1,6 +1,10 @@
 -- What a file is while its side is written anew.
-use Rattle.std.specs.Prelude.{◌≡◌, ◌≢◌, ◌⊎◌, ℕ, false, List, [], ◌∷◌, Some, slice_get}
+use Rattle.std.specs.Prelude.{◌≡◌, ◌≢◌, ◌⊎◌, ℕ, false, List, [], ◌∷◌, Some, slice_get, Result, OnOk}
+use Rattle.disk.specs.declared.storage.Disk.{Ghosts}
+use Rattle.disk.specs.declared.side.Side.{Side}
 use Rattle.disk.specs.File.{Durable, File, at_rest}
+use Rattle.disk.specs.Time.{OtherStays, OtherMayBe}
+use Rattle.disk.specs.Storage.{Leaves}
 use Rattle.sides.specs.Side.{IsOpen}
 
 -- the bytes begin with a gate that is not open
@@ -45,3 +49,11 @@ MayShut old bytes = (bytes ≡ old) ⊎ IsShut bytes
 -- or it leaves the new bytes
 abbrev pub MayTurn : List ℕ → List ℕ → List ℕ → Type 0
 MayTurn old new bytes = MayShut old bytes ⊎ (bytes ≡ new)
+
+-- What writing a file anew leaves, on an honest disk: these bytes, all of them on the disk; the other file stays. If the file has a first byte, a crash at any moment
+-- leaves the old bytes, the new ones, or bytes that begin with a gate that is not open.
+pub record WritesAnew {D T E : Type 0} (storage : Ghosts D) (side : Side) (bytes : List ℕ) (old new : D) (result : Result T E) : Type 0 where
+  pub written : OnOk result (storage.files new side ≡ at_rest bytes)
+  pub other : OtherStays side (storage.files old) (storage.files new)
+  pub any_moment : (storage.files old side).content ≢ []
+      → Leaves storage old new (λ contents. MayTurn (storage.files old side).content bytes (contents side) × OtherMayBe side (storage.files old) contents)

@@ -1,15 +1,16 @@
-ghost use Rattle.std.specs.Prelude.{◌≡◌, ◌≢◌, ◌≤◌, ◌<◌, ◌+◌, ◌^◌, ◌⊎◌, ◌↔◌, ℕ, true, false, List, [], ◌∷◌, length, IsTrue, IfOk, OnOk, IfErr, IsErrAnd, IsErrOf};
+ghost use Rattle.std.specs.Prelude.{◌≡◌, ◌≢◌, ◌≤◌, ◌<◌, ◌+◌, ◌^◌, ◌⊎◌, ◌↔◌, ℕ, true, false, List, [], ◌∷◌, length, IsTrue, IfOk, OnOk};
+ghost use Rattle.disk.specs.Storage.{Leaves, Reports};
 ghost use Rattle.disk.specs.File.{at_rest};
-ghost use Rattle.disk.specs.Time.{HasCause, CountsRefusal, LeavesOnly, MayLeaveNow, HasCauses};
 ghost use Rattle.disk.specs.declared.side.Side.{Side};
 ghost use Rattle.disk.specs.declared.side.Side.TheVariants.{A, B};
 ghost use Rattle.codec.specs.Spelling.{image_bytes};
 ghost use Rattle.sides.specs.Side.{behind_gate};
-ghost use Rattle.vault.specs.Calls.{IsCreated, IsNew, LeavesNonEmpty};
+ghost use Rattle.vault.specs.Calls.{IsCreated, IsNew, LeavesNonEmpty, RefusesToMake};
+ghost use Rattle.vault.specs.Made.{AreNewFiles, IsMade};
 ghost use Rattle.sides.specs.Reading.{IsCanonical};
-ghost use Rattle.vault.specs.Store.{BComesFirst, disk_of, answer_of, empty, new_side};
+ghost use Rattle.vault.specs.Store.{BComesFirst, disk_of, answer_of, empty};
 ghost use Rattle.vault.specs.Opened.{OnlyReads};
-ghost use Rattle.vault.specs.declared.error.VaultError.TheVariants.{Device, NoMemory, Exists};
+ghost use Rattle.vault.specs.declared.error.VaultError.TheVariants.{Exists};
 ghost use Rattle.sides.specs.declared.gate.TheConstants.{FORMAT};
 
 use crate::{Refused, Vault, VaultError};
@@ -33,15 +34,13 @@ pub fn create<D: Disk>(alloc: Global, disk: D, text: &[u8]) -> Result<Vault<D>, 
 
     // If A is empty, and nothing of it is on its way to the disk, a crash at any moment leaves A empty, or B with its
     // closed gate.
-    ensures begins { IsTrue D.is_honest → D.files disk A ≡ at_rest [] → LeavesOnly D.moment D.left_at disk (disk_of result) BComesFirst }
+    ensures begins { IsTrue D.is_honest → D.files disk A ≡ at_rest [] → Leaves D.Disk disk (disk_of result) BComesFirst }
 
     // Files that are not empty are left as they are.
-    ensures non_empty { IsTrue D.is_honest → LeavesNonEmpty D.files D.moment D.left_at disk (disk_of result) (answer_of result) }
+    ensures non_empty { IsTrue D.is_honest → LeavesNonEmpty D.Disk disk (disk_of result) (answer_of result) }
 
-    // Why it is refused. All memory of its own is asked for before the first call of the disk.
-    ensures errors { IfErr result (λ refused. (refused.error ≡ Exists) ⊎ (refused.error ≡ NoMemory) ⊎ (refused.error ≡ Device)) }
-    ensures causes { HasCauses D.failures D.refusals Device NoMemory disk (disk_of result) (answer_of result) }
-    ensures grown_first { IfErr result (λ refused. refused.error ≡ NoMemory → D.refusals refused.disk ≡ D.refusals disk → refused.disk ≡ disk) }
+    // Why it is refused.
+    ensures refused { RefusesToMake D.Disk disk (disk_of result) (answer_of result) }
 {
     sides_go_on();
     let mut disk = disk;
@@ -59,7 +58,6 @@ pub fn create<D: Disk>(alloc: Global, disk: D, text: &[u8]) -> Result<Vault<D>, 
             text: kept,
             halted: false,
             laid: 0,
-            ahead_to: 0,
             buffer,
         }),
         Err(error) => Err(Refused { disk, error }),
@@ -77,19 +75,11 @@ struct Made {
 // Writes a store without facts on two empty files.
 fn write_store<D: Disk>(alloc: Global, disk: &mut D, text: &[u8]) -> Result<Made, VaultError>
     requires { length text.now < 2 ^ 32 }
-    ensures a { IsTrue D.is_honest → OnOk result (D.files disk.new A ≡ at_rest (new_side 1 text.now (image_bytes empty))) }
-    ensures b { IsTrue D.is_honest → OnOk result (D.files disk.new B ≡ at_rest (0 ∷ [])) }
-    ensures side { IfOk result (λ made. made.journal.side ≡ A) }
-    ensures end { IfOk result (λ made. made.journal.end ≡ length (1 ∷ behind_gate FORMAT 1 text.now (image_bytes empty) [])) }
-    ensures text { IfOk result (λ made. made.kept.items ≡ text.now) }
-    ensures begins { IsTrue D.is_honest → D.files disk.old A ≡ at_rest [] → LeavesOnly D.moment D.left_at disk.old disk.new BComesFirst }
-    ensures were_empty { IsTrue D.is_honest → (side : Side) → OnOk result ((D.files disk.old side).content ≡ []) }
-    ensures exists { IsTrue D.is_honest → IsErrOf result Exists → ((D.files disk.old A).content ≢ []) ⊎ ((D.files disk.old B).content ≢ []) }
-    ensures kept { IsTrue D.is_honest → (some : Side) → (D.files disk.old some).content ≢ [] → (each : Side) → D.files disk.new each ≡ D.files disk.old each }
-    ensures kept_moments { IsTrue D.is_honest → (some : Side) → (D.files disk.old some).content ≢ [] → LeavesOnly D.moment D.left_at disk.old disk.new (MayLeaveNow (D.files disk.old)) }
-    ensures errors { IfErr result (λ error. (error ≡ Exists) ⊎ (error ≡ NoMemory) ⊎ (error ≡ Device)) }
-    ensures causes { HasCauses D.failures D.refusals Device NoMemory disk.old disk.new result }
-    ensures grown_first { IsErrOf result NoMemory → D.refusals disk.new ≡ D.refusals disk.old → disk.new ≡ disk.old }
+    ensures sides { IsTrue D.is_honest → OnOk result (AreNewFiles (D.files disk.new) text.now) }
+    ensures made { IfOk result (IsMade text.now) }
+    ensures begins { IsTrue D.is_honest → D.files disk.old A ≡ at_rest [] → Leaves D.Disk disk.old disk.new BComesFirst }
+    ensures non_empty { IsTrue D.is_honest → LeavesNonEmpty D.Disk disk.old disk.new result }
+    ensures refused { RefusesToMake D.Disk disk.old disk.new result }
 {
     let kept = Vec::from_slice(alloc, text)?;
     let buffer = without_facts(alloc, text)?;
@@ -99,7 +89,10 @@ fn write_store<D: Disk>(alloc: Global, disk: &mut D, text: &[u8]) -> Result<Made
     write_sides(disk, &buffer)?;
     let end = buffer.len() as u64 - 1;
     Ok(Made {
-        journal: Journal::ending(alloc, Side::A, end),
+        journal: Journal {
+            side: Side::A,
+            end,
+        },
         kept,
         buffer,
     })
@@ -135,9 +128,8 @@ fn is_there<D: Disk>(disk: &mut D) -> Result<bool, DiskError>
     ensures empty { IsTrue D.is_honest → (side : Side) → IfOk result (λ some. some ≡ false → (D.files disk.old side).content ≡ []) }
     ensures there { IsTrue D.is_honest → IfOk result (λ some. some ≡ true → ((D.files disk.old A).content ≢ []) ⊎ ((D.files disk.old B).content ≢ [])) }
     ensures same { IsTrue D.is_honest → (side : Side) → D.files disk.new side ≡ D.files disk.old side }
-    ensures only_reads { IsTrue D.is_honest → OnlyReads D.files D.moment D.left_at disk.old disk.new }
-    ensures cause { HasCause (D.failures disk.old) (D.failures disk.new) result }
-    ensures refused { CountsRefusal (D.refusals disk.old) (D.refusals disk.new) result }
+    ensures only_reads { IsTrue D.is_honest → OnlyReads D.Disk disk.old disk.new }
+    ensures reports { Reports D.Disk disk.old disk.new result }
 {
     let a = disk.len(Side::A)?;
     let b = disk.len(Side::B)?;
@@ -149,9 +141,8 @@ fn is_there<D: Disk>(disk: &mut D) -> Result<bool, DiskError>
 fn write_sides<D: Disk>(disk: &mut D, bytes: &[u8]) -> Result<(), DiskError>
     ensures a { IsTrue D.is_honest → (rest : List ℕ) → bytes.now ≡ 0 ∷ rest → (D.files disk.old A).content ≡ [] → OnOk result (D.files disk.new A ≡ at_rest (1 ∷ rest)) }
     ensures b { IsTrue D.is_honest → (D.files disk.old B).content ≡ [] → OnOk result (D.files disk.new B ≡ at_rest (0 ∷ [])) }
-    ensures begins { IsTrue D.is_honest → D.files disk.old A ≡ at_rest [] → (D.files disk.old B).content ≡ [] → LeavesOnly D.moment D.left_at disk.old disk.new BComesFirst }
-    ensures cause { HasCause (D.failures disk.old) (D.failures disk.new) result }
-    ensures refused { CountsRefusal (D.refusals disk.old) (D.refusals disk.new) result }
+    ensures begins { IsTrue D.is_honest → D.files disk.old A ≡ at_rest [] → (D.files disk.old B).content ≡ [] → Leaves D.Disk disk.old disk.new BComesFirst }
+    ensures reports { Reports D.Disk disk.old disk.new result }
 {
     write_synced(disk, Side::B, 0, &[0])?;
     write_synced(disk, Side::A, 0, bytes)?;

@@ -66,7 +66,7 @@ fn found_of(alloc: Global, side: Side, generation: u64, standing: Standing, byte
     Found {
         bytes,
         start,
-        journal: Journal::ending(alloc, side, end),
+        journal: Journal { side, end },
         generation,
         text,
         graph,

@@ -1,8 +1,8 @@
 ghost use Rattle.std.specs.Prelude.{◌≡◌, ◌≢◌, ◌<◌, ◌^◌, ◌∷◌, [], length, IsTrue, IfOk, OnOk, MatchBool};
-ghost use Rattle.disk.specs.File.{at_rest};
-ghost use Rattle.disk.specs.Time.{OtherStays, OtherMayBe, LeavesOnly, MayLeaveNow, HasCause, CountsRefusal};
+ghost use Rattle.disk.specs.Storage.{KeepsFiles, Leaves, Reports};
+ghost use Rattle.disk.specs.Time.{OtherStays, OtherMayBe};
 ghost use Rattle.vault.specs.Stands.{other_side};
-ghost use Rattle.vault.specs.Turned.{IsShut, IsUnshut, Rests, RestsShut, HasAfterGate, HasBehindGate, MayShut, MayTurn};
+ghost use Rattle.vault.specs.Turned.{WritesAnew, IsShut, IsUnshut, Rests, RestsShut, HasAfterGate, HasBehindGate, MayShut};
 
 use codec::ImageSource;
 use disk::{Disk, DiskError, Side, write_synced};
@@ -28,12 +28,8 @@ pub(crate) fn write_side<D: Disk, S: ImageSource + Drop>(
     requires rests { IsTrue D.is_honest → Rests (D.files disk.old side) }
     requires room { 0 < length buffer.old }
     requires few { length (S.left behind) < 2 ^ 63 }
-    ensures written { IsTrue D.is_honest → OnOk result (D.files disk.new side ≡ at_rest (1 ∷ S.left behind)) }
-    ensures other { IsTrue D.is_honest → OtherStays side (D.files disk.old) (D.files disk.new) }
-    ensures any_moment { IsTrue D.is_honest → (D.files disk.old side).content ≢ [] → LeavesOnly D.moment D.left_at disk.old disk.new
-        (λ contents. MayTurn (D.files disk.old side).content (1 ∷ S.left behind) (contents side) × OtherMayBe side (D.files disk.old) contents) }
-    ensures cause { HasCause (D.failures disk.old) (D.failures disk.new) result }
-    ensures refused { CountsRefusal (D.refusals disk.old) (D.refusals disk.new) result }
+    ensures written { IsTrue D.is_honest → WritesAnew D.Disk side (1 ∷ S.left behind) disk.old disk.new result }
+    ensures reports { Reports D.Disk disk.old disk.new result }
 {
     close_gate(disk, side)?;
     write_behind(disk, side, behind, buffer)?;
@@ -52,9 +48,8 @@ fn write_behind<D: Disk, S: ImageSource + Drop>(
     requires few { length (S.left behind) < 2 ^ 63 }
     ensures written { IsTrue D.is_honest → OnOk result (HasBehindGate (D.files disk.new side) (S.left behind)) }
     ensures other { IsTrue D.is_honest → OtherStays side (D.files disk.old) (D.files disk.new) }
-    ensures any_moment { IsTrue D.is_honest → LeavesOnly D.moment D.left_at disk.old disk.new (λ contents. IsShut (contents side) × OtherMayBe side (D.files disk.old) contents) }
-    ensures cause { HasCause (D.failures disk.old) (D.failures disk.new) result }
-    ensures refused { CountsRefusal (D.refusals disk.old) (D.refusals disk.new) result }
+    ensures any_moment { IsTrue D.is_honest → Leaves D.Disk disk.old disk.new (λ contents. IsShut (contents side) × OtherMayBe side (D.files disk.old) contents) }
+    ensures reports { Reports D.Disk disk.old disk.new result }
 {
     disk.cut(side, 1)?;
     write_pieces(disk, side, behind, buffer)?;
@@ -74,9 +69,8 @@ fn write_pieces<D: Disk, S: ImageSource + Drop>(
     requires few { length (S.left behind) < 2 ^ 63 }
     ensures written { IsTrue D.is_honest → OnOk result (HasAfterGate (D.files disk.new side) (S.left behind)) }
     ensures other { IsTrue D.is_honest → OtherStays side (D.files disk.old) (D.files disk.new) }
-    ensures any_moment { IsTrue D.is_honest → LeavesOnly D.moment D.left_at disk.old disk.new (λ contents. IsShut (contents side) × OtherMayBe side (D.files disk.old) contents) }
-    ensures cause { HasCause (D.failures disk.old) (D.failures disk.new) result }
-    ensures refused { CountsRefusal (D.refusals disk.old) (D.refusals disk.new) result }
+    ensures any_moment { IsTrue D.is_honest → Leaves D.Disk disk.old disk.new (λ contents. IsShut (contents side) × OtherMayBe side (D.files disk.old) contents) }
+    ensures reports { Reports D.Disk disk.old disk.new result }
 {
     let mut behind = behind;
     let mut at = 1u64;
@@ -95,10 +89,9 @@ fn close_gate<D: Disk>(disk: &mut D, side: Side) -> Result<(), DiskError>
     requires { IsTrue D.is_honest → Rests (D.files disk.old side) }
     ensures shut { IsTrue D.is_honest → OnOk result (RestsShut (D.files disk.new side)) }
     ensures other { IsTrue D.is_honest → OtherStays side (D.files disk.old) (D.files disk.new) }
-    ensures any_moment { IsTrue D.is_honest → (D.files disk.old side).content ≢ [] → LeavesOnly D.moment D.left_at disk.old disk.new
+    ensures any_moment { IsTrue D.is_honest → (D.files disk.old side).content ≢ [] → Leaves D.Disk disk.old disk.new
         (λ contents. MayShut (D.files disk.old side).content (contents side) × OtherMayBe side (D.files disk.old) contents) }
-    ensures cause { HasCause (D.failures disk.old) (D.failures disk.new) result }
-    ensures refused { CountsRefusal (D.refusals disk.old) (D.refusals disk.new) result }
+    ensures reports { Reports D.Disk disk.old disk.new result }
 {
     if is_shut(disk, side)? {
         return Ok(());
@@ -109,10 +102,8 @@ fn close_gate<D: Disk>(disk: &mut D, side: Side) -> Result<(), DiskError>
 // Whether a file begins with a gate that is not open.
 fn is_shut<D: Disk>(disk: &mut D, side: Side) -> Result<bool, DiskError>
     ensures shut { IsTrue D.is_honest → IfOk result (λ shut. MatchBool shut (IsShut (D.files disk.old side).content) (IsUnshut (D.files disk.old side).content)) }
-    ensures same { IsTrue D.is_honest → (each : Side) → D.files disk.new each ≡ D.files disk.old each }
-    ensures any_moment { IsTrue D.is_honest → LeavesOnly D.moment D.left_at disk.old disk.new (MayLeaveNow (D.files disk.old)) }
-    ensures cause { HasCause (D.failures disk.old) (D.failures disk.new) result }
-    ensures refused { CountsRefusal (D.refusals disk.old) (D.refusals disk.new) result }
+    ensures kept { IsTrue D.is_honest → KeepsFiles D.Disk disk.old disk.new }
+    ensures reports { Reports D.Disk disk.old disk.new result }
 {
     if disk.len(side)? == 0 {
         return Ok(false);

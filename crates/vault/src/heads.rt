@@ -1,9 +1,10 @@
-ghost use Rattle.std.specs.Prelude.{◌≡◌, ◌⊎◌, ◌≤◌, ◌<◌, ◌≢◌, ◌↔◌, ℕ, None, length, IsTrue, IfOk, IfErr, IsErrAnd, IsErrOf};
+ghost use Rattle.std.specs.Prelude.{◌≡◌, ◌⊎◌, ◌≤◌, ◌<◌, ◌≢◌, ◌↔◌, ℕ, None, length, IsTrue, IfOk, IfErr, IsErrOf};
+ghost use Rattle.disk.specs.Storage.{Errs, Reports, ReportsAs};
 ghost use Rattle.disk.specs.declared.side.Side.{Side};
 ghost use Rattle.disk.specs.declared.side.Side.TheVariants.{A, B};
-ghost use Rattle.disk.specs.Time.{Contents, HasCause, CountsRefusal, HasErred, HasCauses};
+ghost use Rattle.disk.specs.Time.{Contents};
 ghost use Rattle.sides.specs.Reading.{Tells};
-ghost use Rattle.sides.specs.Side.{IsOpen, HasGeneration};
+ghost use Rattle.sides.specs.Side.{HasGeneration};
 ghost use Rattle.vault.specs.Store.{SaysNothing};
 ghost use Rattle.vault.specs.Opened.{OnlyReads, IsGenerationOf, IsAhead, IsCutShort, AreOfOneGeneration, HeadsFault, StandsForNothing, NoneIsOpen, IsOfOpening, contents_of};
 ghost use Rattle.vault.specs.declared.error.VaultError.{VaultError as Cause};
@@ -20,12 +21,12 @@ const GENERATION: u64 = 2;
 pub(crate) fn live_side<D: Disk>(disk: &mut D) -> Result<Side, VaultError>
     ensures ahead { IsTrue D.is_honest → IfOk result (IsAhead (contents_of (D.files disk.old))) }
     ensures nothing { IsTrue D.is_honest → IfErr result (λ error. SaysNothing error → StandsForNothing (contents_of (D.files disk.old))) }
-    ensures heads { IsTrue D.is_honest → (error : Cause) → HeadsFault (contents_of (D.files disk.old)) error → IsErrOf result error ⊎ HasErred D.failures D.refusals disk.old disk.new }
+    ensures heads { IsTrue D.is_honest → (error : Cause) → HeadsFault (contents_of (D.files disk.old)) error → IsErrOf result error ⊎ Errs D.Disk disk.old disk.new }
     ensures cause { IsTrue D.is_honest → IfErr result (λ error. SaysNothing error → HeadsFault (contents_of (D.files disk.old)) error) }
     ensures same { IsTrue D.is_honest → (each : Side) → D.files disk.new each ≡ D.files disk.old each }
-    ensures only_reads { IsTrue D.is_honest → OnlyReads D.files D.moment D.left_at disk.old disk.new }
+    ensures only_reads { IsTrue D.is_honest → OnlyReads D.Disk disk.old disk.new }
     ensures others { IfErr result IsOfOpening }
-    ensures causes { HasCauses D.failures D.refusals Device NoMemory disk.old disk.new result }
+    ensures causes { ReportsAs D.Disk Device NoMemory disk.old disk.new result }
 {
     let a = generation_of(disk, Side::A)?;
     let b = generation_of(disk, Side::B)?;
@@ -37,11 +38,11 @@ fn generation_of<D: Disk>(disk: &mut D, side: Side) -> Result<Option<u64>, Vault
     ensures generation { IsTrue D.is_honest → IfOk result (λ generation. IsGenerationOf generation (D.files disk.old side).content) }
     ensures nothing { IsTrue D.is_honest → IfErr result (λ error. SaysNothing error → StandsForNothing (contents_of (D.files disk.old))) }
     ensures told { IsTrue D.is_honest → IfErr result (λ error. SaysNothing error → IsCutShort (D.files disk.old side).content × (error ≡ Damaged side (length (D.files disk.old side).content))) }
-    ensures short { IsTrue D.is_honest → IfErr result (λ error. HasErred D.failures D.refusals disk.old disk.new ⊎ (IsCutShort (D.files disk.old side).content × (error ≡ Damaged side (length (D.files disk.old side).content)))) }
+    ensures short { IsTrue D.is_honest → IfErr result (λ error. Errs D.Disk disk.old disk.new ⊎ (IsCutShort (D.files disk.old side).content × (error ≡ Damaged side (length (D.files disk.old side).content)))) }
     ensures same { IsTrue D.is_honest → (each : Side) → D.files disk.new each ≡ D.files disk.old each }
-    ensures only_reads { IsTrue D.is_honest → OnlyReads D.files D.moment D.left_at disk.old disk.new }
+    ensures only_reads { IsTrue D.is_honest → OnlyReads D.Disk disk.old disk.new }
     ensures others { IfErr result IsOfOpening }
-    ensures causes { HasCauses D.failures D.refusals Device NoMemory disk.old disk.new result }
+    ensures causes { ReportsAs D.Disk Device NoMemory disk.old disk.new result }
 {
     one_meaning_of_a_side();
     let (gate, count) = head_of(disk, side)?;
@@ -57,9 +58,8 @@ fn head_of<D: Disk>(disk: &mut D, side: Side) -> Result<(Gate, u64), DiskError>
     ensures tells { IsTrue D.is_honest → IfOk result (λ head. Tells head.0 (D.files disk.old side).content) }
     ensures count { IsTrue D.is_honest → IfOk result (λ head. head.1 ≡ length (D.files disk.old side).content) }
     ensures same { IsTrue D.is_honest → (each : Side) → D.files disk.new each ≡ D.files disk.old each }
-    ensures only_reads { IsTrue D.is_honest → OnlyReads D.files D.moment D.left_at disk.old disk.new }
-    ensures cause { HasCause (D.failures disk.old) (D.failures disk.new) result }
-    ensures refused { CountsRefusal (D.refusals disk.old) (D.refusals disk.new) result }
+    ensures only_reads { IsTrue D.is_honest → OnlyReads D.Disk disk.old disk.new }
+    ensures reports { Reports D.Disk disk.old disk.new result }
 {
     let count = disk.len(side)?;
     let known = count.min(HEAD as u64) as usize;

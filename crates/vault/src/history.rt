@@ -1,5 +1,5 @@
 ghost use Rattle.std.specs.Prelude.{IsTrue};
-ghost use Rattle.vault.specs.Commits.{HalfIsNoBeginning, BegunStore, AppendedStore, RefusedStore, StoreIsReady, HeldLeaves, RestLeaves, AppendLeaves, TurnLeaves, GatesRest, GatesStay, GatesGoOn, OpeningFinds, StoreGoesOn};
+ghost use Rattle.vault.specs.Commits.{HalfIsNoBeginning, CallsGoOn, RestGoesOn, GatesAreKept, OpeningFinds, StoreGoesOn};
 
 use crate::one_store;
 use disk::Disk;
@@ -13,22 +13,11 @@ use terms::{facts_are_told_apart, facts_go_on};
 /// after openings that were cut off or refused, an opening gives the store of such a prefix to the next call, and never
 /// says that there is none. What is said of first bytes holds if each file has one.
 pub fn stores_go_on<D: Disk>()
-    ensures begun { BegunStore D.files D.moment D.left_at }
-    ensures appended { AppendedStore D.files D.moment D.left_at }
-    ensures refused { RefusedStore D.files D.moment D.left_at }
-    ensures ready { StoreIsReady D.files D.moment D.left_at }
-
-    ensures held_leaves { IsTrue D.is_honest → HeldLeaves D.files D.moment D.left_at }
-    ensures rest_leaves { IsTrue D.is_honest → RestLeaves D.files D.moment D.left_at }
-    ensures append_leaves { AppendLeaves D.files D.moment D.left_at }
-    ensures turn_leaves { TurnLeaves D.files D.moment D.left_at }
-
-    ensures gates_rest { IsTrue D.is_honest → GatesRest D.files D.moment D.left_at }
-    ensures gates_stay { IsTrue D.is_honest → GatesStay D.files D.moment D.left_at }
-    ensures gates_go_on { IsTrue D.is_honest → GatesGoOn D.files D.moment D.left_at }
-
-    ensures finds { OpeningFinds D.files D.moment D.left_at }
-    ensures goes_on { IsTrue D.is_honest → StoreGoesOn D.files D.moment D.left_at }
+    ensures calls { CallsGoOn D.Disk }
+    ensures rest { IsTrue D.is_honest → RestGoesOn D.Disk }
+    ensures gates { IsTrue D.is_honest → GatesAreKept D.Disk }
+    ensures finds { OpeningFinds D.Disk }
+    ensures goes_on { IsTrue D.is_honest → StoreGoesOn D.Disk }
 {
     facts_are_told_apart();
     facts_go_on();

@@ -10,6 +10,7 @@ mod creation;
 mod error;
 mod found;
 mod gates;
+mod groups;
 mod heads;
 mod history;
 mod law;

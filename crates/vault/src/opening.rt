@@ -1,11 +1,10 @@
-ghost use Rattle.std.specs.Prelude.{◌≡◌, ◌≢◌, ◌⊎◌, ◌≤◌, ◌<◌, ◌↔◌, ℕ, false, IsTrue, IfOk, IfErr, IsErrAnd, IsErrOf, OnOk};
+ghost use Rattle.std.specs.Prelude.{◌≡◌, ◌≢◌, ◌⊎◌, ◌≤◌, ◌<◌, ◌↔◌, ℕ, false, IsTrue, IfOk, IfErr, IsErrOf, OnOk};
+ghost use Rattle.disk.specs.Storage.{Errs, Reports, ReportsAs};
 ghost use Rattle.disk.specs.declared.side.Side.{Side};
 ghost use Rattle.disk.specs.File.{at_rest};
-ghost use Rattle.disk.specs.Time.{Contents, LeavesOnly, MayLeaveNow, HasCause, CountsRefusal, HasErred, HasCauses};
-ghost use Rattle.sides.specs.Side.{IsOpen};
-ghost use Rattle.vault.specs.Store.{Holds, IsReady, SaysNothing, disk_of_opening, answer_of};
-ghost use Rattle.vault.specs.Opened.{OnlyReads, IsFound, IsFoundIn, IsSound, HeadsFault, IsOfAhead, TellsWhy, StandsForNothing, IsOfOpening, contents_of};
-ghost use Rattle.vault.specs.declared.error.VaultError.{VaultError as Cause};
+ghost use Rattle.disk.specs.Time.{HasCause};
+ghost use Rattle.vault.specs.Store.{Holds, IsReady, disk_of_opening, answer_of};
+ghost use Rattle.vault.specs.Opened.{OnlyReads, IsFound, IsFoundIn, IsSound, TellsWhy, IsOfOpening, contents_of};
 ghost use Rattle.vault.specs.declared.error.VaultError.TheVariants.{Device, NoMemory};
 ghost use Rattle.disk.specs.declared.error.DiskError.TheVariants as DiskError;
 ghost use Rattle.codec.specs.Image.{facts_in, environment_in};
@@ -46,14 +45,14 @@ pub fn open<D: Disk>(alloc: Global, disk: D) -> Result<Recovered<D>, Refused<D>>
     ensures sound { IfOk result (λ r. IsSound r.graph r.holdings r.vault.generation r.vault.journal.end r.vault.text.items) }
 
     // What a refusal says of the files.
-    ensures tells { IsTrue D.is_honest → TellsWhy (contents_of (D.files disk)) (HasErred D.failures D.refusals disk (disk_of_opening result)) (answer_of result) }
+    ensures tells { IsTrue D.is_honest → TellsWhy (contents_of (D.files disk)) (Errs D.Disk disk (disk_of_opening result)) (answer_of result) }
 
     // Reads return what they returned before, and a crash at any moment of the call, or after it, leaves what one might
     // have left before.
-    ensures only_reads { IsTrue D.is_honest → OnlyReads D.files D.moment D.left_at disk (disk_of_opening result) }
+    ensures only_reads { IsTrue D.is_honest → OnlyReads D.Disk disk (disk_of_opening result) }
 
     ensures errors { IfErr result (λ refused. IsOfOpening refused.error) }
-    ensures causes { HasCauses D.failures D.refusals Device NoMemory disk (disk_of_opening result) (answer_of result) }
+    ensures causes { ReportsAs D.Disk Device NoMemory disk (disk_of_opening result) (answer_of result) }
 {
     sides_go_on();
     let mut disk = disk;
@@ -75,7 +74,6 @@ pub fn open<D: Disk>(alloc: Global, disk: D) -> Result<Recovered<D>, Refused<D>>
                 text,
                 halted: false,
                 laid: 0,
-                ahead_to: 0,
                 buffer: Vec::new(alloc),
             };
             Ok(Recovered {
@@ -94,12 +92,10 @@ pub(crate) fn recover<D: Disk>(alloc: Global, disk: &mut D) -> Result<Found, Vau
     ensures kept { IfOk result (λ found. IsFoundIn found.journal.side found.bytes.items found) }
     ensures sound { IfOk result (λ found. IsSound found.graph found.holdings found.generation found.journal.end found.text.items) }
     ensures rests { IsTrue D.is_honest → OnOk result ((side : Side) → D.files disk.new side ≡ at_rest (D.files disk.old side).content) }
-    ensures nothing { IsTrue D.is_honest → IfErr result (λ error. SaysNothing error → StandsForNothing (contents_of (D.files disk.old))) }
-    ensures heads { IsTrue D.is_honest → (error : Cause) → HeadsFault (contents_of (D.files disk.old)) error → IsErrOf result error ⊎ HasErred D.failures D.refusals disk.old disk.new }
-    ensures cause { IsTrue D.is_honest → IfErr result (λ error. SaysNothing error → HeadsFault (contents_of (D.files disk.old)) error ⊎ IsOfAhead (contents_of (D.files disk.old)) error) }
-    ensures only_reads { IsTrue D.is_honest → OnlyReads D.files D.moment D.left_at disk.old disk.new }
+    ensures tells { IsTrue D.is_honest → TellsWhy (contents_of (D.files disk.old)) (Errs D.Disk disk.old disk.new) result }
+    ensures only_reads { IsTrue D.is_honest → OnlyReads D.Disk disk.old disk.new }
     ensures others { IfErr result IsOfOpening }
-    ensures causes { HasCauses D.failures D.refusals Device NoMemory disk.old disk.new result }
+    ensures causes { ReportsAs D.Disk Device NoMemory disk.old disk.new result }
 {
     settle(disk)?;
     look(alloc, disk)
@@ -108,9 +104,8 @@ pub(crate) fn recover<D: Disk>(alloc: Global, disk: &mut D) -> Result<Found, Vau
 // Syncs both files.
 fn settle<D: Disk>(disk: &mut D) -> Result<(), DiskError>
     ensures rests { IsTrue D.is_honest → OnOk result ((side : Side) → D.files disk.new side ≡ at_rest (D.files disk.old side).content) }
-    ensures only_reads { IsTrue D.is_honest → OnlyReads D.files D.moment D.left_at disk.old disk.new }
-    ensures cause { HasCause (D.failures disk.old) (D.failures disk.new) result }
-    ensures refused { CountsRefusal (D.refusals disk.old) (D.refusals disk.new) result }
+    ensures only_reads { IsTrue D.is_honest → OnlyReads D.Disk disk.old disk.new }
+    ensures reports { Reports D.Disk disk.old disk.new result }
 {
     disk.sync(Side::A)?;
     disk.sync(Side::B)
@@ -121,13 +116,11 @@ fn look<D: Disk>(alloc: Global, disk: &mut D) -> Result<Found, VaultError>
     ensures found { IsTrue D.is_honest → IfOk result (IsFound (contents_of (D.files disk.old))) }
     ensures kept { IfOk result (λ found. IsFoundIn found.journal.side found.bytes.items found) }
     ensures sound { IfOk result (λ found. IsSound found.graph found.holdings found.generation found.journal.end found.text.items) }
-    ensures nothing { IsTrue D.is_honest → IfErr result (λ error. SaysNothing error → StandsForNothing (contents_of (D.files disk.old))) }
-    ensures heads { IsTrue D.is_honest → (error : Cause) → HeadsFault (contents_of (D.files disk.old)) error → IsErrOf result error ⊎ HasErred D.failures D.refusals disk.old disk.new }
-    ensures cause { IsTrue D.is_honest → IfErr result (λ error. SaysNothing error → HeadsFault (contents_of (D.files disk.old)) error ⊎ IsOfAhead (contents_of (D.files disk.old)) error) }
+    ensures tells { IsTrue D.is_honest → TellsWhy (contents_of (D.files disk.old)) (Errs D.Disk disk.old disk.new) result }
     ensures same { IsTrue D.is_honest → (each : Side) → D.files disk.new each ≡ D.files disk.old each }
-    ensures only_reads { IsTrue D.is_honest → OnlyReads D.files D.moment D.left_at disk.old disk.new }
+    ensures only_reads { IsTrue D.is_honest → OnlyReads D.Disk disk.old disk.new }
     ensures others { IfErr result IsOfOpening }
-    ensures causes { HasCauses D.failures D.refusals Device NoMemory disk.old disk.new result }
+    ensures causes { ReportsAs D.Disk Device NoMemory disk.old disk.new result }
 {
     one_meaning_of_a_side();
     let side = live_side(disk)?;
@@ -139,7 +132,7 @@ fn look<D: Disk>(alloc: Global, disk: &mut D) -> Result<Found, VaultError>
 fn read_whole<D: Disk>(alloc: Global, disk: &mut D, side: Side) -> Result<Vec<u8>, DiskError>
     ensures value { IsTrue D.is_honest → IfOk result (λ bytes. bytes.items ≡ (D.files disk.old side).content) }
     ensures same { IsTrue D.is_honest → (each : Side) → D.files disk.new each ≡ D.files disk.old each }
-    ensures only_reads { IsTrue D.is_honest → OnlyReads D.files D.moment D.left_at disk.old disk.new }
+    ensures only_reads { IsTrue D.is_honest → OnlyReads D.Disk disk.old disk.new }
     ensures cause { HasCause (D.failures disk.old) (D.failures disk.new) result }
     ensures refusals { D.refusals disk.new ≢ D.refusals disk.old → IsErrOf result DiskError.NoMemory }
 {

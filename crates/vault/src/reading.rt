@@ -1,5 +1,5 @@
 ghost use Rattle.std.specs.Prelude.{IsTrue, IfOk, IfErr};
-ghost use Rattle.disk.specs.Time.{HasErred, HasCauses};
+ghost use Rattle.disk.specs.Storage.{Errs, ReportsAs};
 ghost use Rattle.vault.specs.LiveSides.{IsLiveSide, IsSideOf};
 ghost use Rattle.vault.specs.Opened.{OnlyReads, TellsWhy, IsOfOpening, contents_of};
 ghost use Rattle.vault.specs.declared.error.VaultError.TheVariants.{Device, NoMemory};
@@ -27,10 +27,10 @@ pub struct LiveSide {
 pub fn read_live<D: Disk>(alloc: Global, disk: &mut D) -> Result<LiveSide, VaultError>
     ensures found { IsTrue D.is_honest → IfOk result (IsLiveSide (contents_of (D.files disk.old))) }
     ensures read { IfOk result IsSideOf }
-    ensures tells { IsTrue D.is_honest → TellsWhy (contents_of (D.files disk.old)) (HasErred D.failures D.refusals disk.old disk.new) result }
-    ensures only_reads { IsTrue D.is_honest → OnlyReads D.files D.moment D.left_at disk.old disk.new }
+    ensures tells { IsTrue D.is_honest → TellsWhy (contents_of (D.files disk.old)) (Errs D.Disk disk.old disk.new) result }
+    ensures only_reads { IsTrue D.is_honest → OnlyReads D.Disk disk.old disk.new }
     ensures errors { IfErr result IsOfOpening }
-    ensures causes { HasCauses D.failures D.refusals Device NoMemory disk.old disk.new result }
+    ensures causes { ReportsAs D.Disk Device NoMemory disk.old disk.new result }
 {
     match recover(alloc, disk) {
         Ok(found) => {

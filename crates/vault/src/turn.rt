@@ -1,16 +1,13 @@
-ghost use Rattle.std.specs.Prelude.{◌≡◌, ◌≢◌, ◌<◌, ◌≤◌, ◌+◌, ◌++◌, ◌⊎◌, ◌^◌, ℕ, [], ◌∷◌, false, length, IsTrue, OnOk, IsErrOf, MatchOption};
+ghost use Rattle.std.specs.Prelude.{◌≡◌, ◌≢◌, ◌<◌, ◌≤◌, ◌+◌, ◌++◌, ◌⊎◌, ◌^◌, ℕ, [], ◌∷◌, false, length, IsTrue, MatchOption};
+ghost use Rattle.disk.specs.Storage.{Reports};
 ghost use Rattle.byteorder.specs.Endian.{little_bytes};
-ghost use Rattle.disk.specs.File.{at_rest};
-ghost use Rattle.disk.specs.Time.{OtherStays, OtherMayBe, LeavesOnly, HasCause, CountsRefusal};
 ghost use Rattle.terms.specs.Sets.{Facts};
 ghost use Rattle.graph.specs.Graph.{Graph};
 ghost use Rattle.journal.specs.declared.journal.TheConstants.{LIMIT};
-ghost use Rattle.vault.specs.Calls.{Halts, SpellsFacts, TurnsOver, WritesSide, IsFullWhere};
-ghost use Rattle.vault.specs.Stands.{Stands, other_side};
-ghost use Rattle.vault.specs.Opened.{contents_of};
-ghost use Rattle.vault.specs.Store.{Holds, HasGates, IsReady, IsLast, IsTooLong, new_side};
-ghost use Rattle.vault.specs.Turned.{Rests, MayTurn};
-ghost use Rattle.vault.specs.declared.error.VaultError.TheVariants.{Full, NoMemory};
+ghost use Rattle.vault.specs.Calls.{Halts, RefusesTurn, TurnsFor, TurnsOver, WritesSide};
+ghost use Rattle.vault.specs.Store.{Holds, IsReady, new_side};
+ghost use Rattle.vault.specs.Turned.{Rests, WritesAnew};
+ghost use Rattle.vault.specs.declared.error.VaultError.TheVariants.{Full};
 ghost use Rattle.sides.specs.declared.gate.TheConstants.{FORMAT};
 
 use crate::gates::{other, write_side};
@@ -41,24 +38,11 @@ impl<D: Disk> Vault<D> {
         requires room { 0 < length buffer.old }
         requires store { IsTrue D.is_honest → self.old.halted ≡ false → IsReady D.files self.old }
 
-        ensures turned { IsTrue D.is_honest → (g : Graph) (E X : Facts) → Holds D.files self.old g E X → SpellsFacts (S.left source) E X → OnOk result (Holds D.files self.new g E X) }
-
-        // A crash at any moment of the call leaves what the store holds, if the other file has a first byte.
-        ensures any_moment { IsTrue D.is_honest → (g : Graph) (E X : Facts) → Holds D.files self.old g E X → SpellsFacts (S.left source) E X → (D.files self.old.disk (other_side self.old.journal.side)).content ≢ []
-            → LeavesOnly D.moment D.left_at self.old.disk self.new.disk (λ contents. Stands contents g E X) }
-
-        // If each file has a first byte, a crash leaves each file one.
-        ensures gates { IsTrue D.is_honest → (g : Graph) (E X : Facts) → Holds D.files self.old g E X → HasGates (contents_of (D.files self.old.disk))
-            → LeavesOnly D.moment D.left_at self.old.disk self.new.disk HasGates }
-
-        // What it writes, how it leaves the vault, and why it is refused.
+        ensures turns { IsTrue D.is_honest → (g : Graph) (E X : Facts) → Holds D.files self.old g E X → TurnsFor D.Disk self.old self.new g E X (S.left source) result }
         ensures written { IsTrue D.is_honest → WritesSide D.files self.old self.new (S.left source) result }
         ensures over { TurnsOver self.old self.new (S.left source) result }
-
-        ensures last { self.old.halted ≡ false → IsLast self.old.generation → IsErrOf result Full }
-        ensures full { IsFullWhere self.old.halted (IsLast self.old.generation ⊎ IsTooLong (self.old.generation + 1) self.old.text.items (S.left source)) result }
-        ensures halting { Halts D.failures D.refusals self.old self.new result }
-        ensures no_memory { IsErrOf result NoMemory → D.refusals self.new.disk ≢ D.refusals self.old.disk }
+        ensures refused { RefusesTurn D.Disk self.old self.new (S.left source) result }
+        ensures halting { Halts D.Disk self.old self.new result }
     {
         if self.halted {
             return Err(VaultError::Halted);
@@ -81,12 +65,10 @@ impl<D: Disk> Vault<D> {
                 self.journal.end = end;
                 self.generation = generation;
                 self.laid = 0;
-                self.ahead_to = 0;
                 Ok(generation)
             }
             Err(error) => {
                 self.halted = true;
-                self.ahead_to = 0;
                 Err(error.into())
             }
         }
@@ -104,14 +86,9 @@ fn write_next<D: Disk, S: ImageSource + Drop>(
 ) -> Result<(), DiskError>
     requires rests { IsTrue D.is_honest → Rests (D.files disk.old side) }
     requires room { 0 < length buffer.old }
-    requires text { length text.now < 2 ^ 32 }
-    requires image { length (S.left image) < 2 ^ 32 }
-    ensures written { IsTrue D.is_honest → OnOk result (D.files disk.new side ≡ at_rest (new_side generation text.now (S.left image))) }
-    ensures other { IsTrue D.is_honest → OtherStays side (D.files disk.old) (D.files disk.new) }
-    ensures any_moment { IsTrue D.is_honest → (D.files disk.old side).content ≢ [] → LeavesOnly D.moment D.left_at disk.old disk.new
-        (λ contents. MayTurn (D.files disk.old side).content (new_side generation text.now (S.left image)) (contents side) × OtherMayBe side (D.files disk.old) contents) }
-    ensures cause { HasCause (D.failures disk.old) (D.failures disk.new) result }
-    ensures refused { CountsRefusal (D.refusals disk.old) (D.refusals disk.new) result }
+    requires short { (length text.now < 2 ^ 32) × (length (S.left image) < 2 ^ 32) }
+    ensures written { IsTrue D.is_honest → WritesAnew D.Disk side (new_side generation text.now (S.left image)) disk.old disk.new result }
+    ensures reports { Reports D.Disk disk.old disk.new result }
 {
     let head = head_of(generation, text.len() as u32);
     let count = count_of(image.length() as u32);

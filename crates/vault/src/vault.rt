@@ -19,10 +19,7 @@ pub struct Vault<D: Disk> {
     pub(crate) halted: bool,
     // Up to where zeros are known to lie behind the journal; 0 if it is not known. No clause rests on it.
     pub(crate) laid: u64,
-    // Up to which closed gate records were laid ahead: while the journal ends below it, the next record may lie there already. 0 if none
-    // were. No clause rests on it.
-    pub(crate) ahead_to: u64,
-    // Holds a commit while it is appended.
+    // Holds the records of a commit while it is appended.
     pub(crate) buffer: Vec<u8>,
 }
 
@@ -36,7 +33,6 @@ impl<D: Disk + Drop> Drop for Vault<D> {
             text: _,
             halted: _,
             laid: _,
-            ahead_to: _,
             buffer: _,
         } = self;
     }
@@ -69,7 +65,6 @@ impl<D: Disk> Vault<D> {
             text: _,
             halted: _,
             laid: _,
-            ahead_to: _,
             buffer: _,
         } = self;
         disk
