@@ -173,7 +173,7 @@ fn hub_as<J: Naming + Send + Sync, D: Disk + Drop + Send, R: Handles>(
     call: Call,
     count: u32,
 ) -> Result<f64, Error>
-    requires { IsNamedFor D.files D.moment D.left_at D.failures D.refusals J.table J.passes J.envs J.opening J.left blank core }
+    requires { IsNamedFor D.Disk J.table J.passes J.envs J.opening J.left blank core }
 {
     let (hub, envs) = opened::<J, D>(rt.alloc(), core, blank)?;
     all_of(rt, &hub, call, envs, count)
@@ -185,7 +185,7 @@ fn opened<J: Naming, D: Disk + Drop>(
     core: Core<D>,
     blank: Blank,
 ) -> Result<(Hub<J, D>, Vec<EnvPass<J>>), Error>
-    requires { IsNamedFor D.files D.moment D.left_at D.failures D.refusals J.table J.passes J.envs J.opening J.left blank core }
+    requires { IsNamedFor D.Disk J.table J.passes J.envs J.opening J.left blank core }
 {
     match Hub::<J, D>::open(alloc, core, blank) {
         Ok((hub, envs, _)) => Ok((hub, envs)),
@@ -262,7 +262,7 @@ fn beside_as<J: Naming, D: Disk + Drop, R: Handles>(
     blank: Blank,
     count: u32,
 ) -> Result<(), Error>
-    requires { IsNamedFor D.files D.moment D.left_at D.failures D.refusals J.table J.passes J.envs J.opening J.left blank core }
+    requires { IsNamedFor D.Disk J.table J.passes J.envs J.opening J.left blank core }
 {
     let (hub, envs) = opened::<J, D>(rt.alloc(), core, blank)?;
     let mut envs = envs;

@@ -1,7 +1,9 @@
 -- The error of a refusal, in a result of another type.
 use Rattle.std.proofs.Common.{◌≡◌, ◌⊎◌, inl, inr, ℕ, Err, ap}
 use Rattle.std.specs.Prelude.{IsErrOf}
-use Rattle.disk.specs.Time.{Contents, HasCauses}
+use Rattle.disk.specs.Storage.{ReportsAs}
+use Rattle.disk.specs.declared.storage.Disk.{Ghosts}
+use Rattle.disk.specs.Time.{Contents}
 use Rattle.vault.specs.Opened.{TellsWhy}
 use Rattle.vault.specs.declared.error.VaultError.{VaultError}
 use Rattle.vault.specs.declared.error.VaultError.TheVariants.{Device, NoMemory}
@@ -19,9 +21,9 @@ why_carried {S} {T} contents erred error why = record { nothing = why.nothing; h
     carried fault (inl is) = inl (other_error {S = S} {T = T} error fault is)
     carried fault (inr it) = inr it
 
-pub causes_carried : {D S T : Type 0} (failures refusals : D → ℕ) (old new : D) (error : VaultError) → HasCauses {T = S} failures refusals Device NoMemory old new (Err error)
-    → HasCauses {T = T} failures refusals Device NoMemory old new (Err error)
-causes_carried {D} {S} {T} failures refusals old new error causes = record {
+pub causes_carried : {D S T : Type 0} (storage : Ghosts D) (old new : D) (error : VaultError) → ReportsAs {T = S} storage Device NoMemory old new (Err error)
+    → ReportsAs {T = T} storage Device NoMemory old new (Err error)
+causes_carried {D} {S} {T} storage old new error causes = record {
   device = (λ is. causes.device.0 (other_error {S = T} {T = S} error Device is), λ failed. other_error {S = S} {T = T} error Device (causes.device.1 failed));
   refused = λ changed. other_error {S = S} {T = T} error NoMemory (causes.refused changed);
   later = causes.later;

@@ -1,10 +1,10 @@
 -- What a command did with a store, what it wrote, and what it came to.
+use Rattle.disk.specs.Storage.{Errs, ReportsAs}
 use Rattle.disk.specs.declared.storage.Disk.{Ghosts}
 use Rattle.std.specs.Prelude.{◌≡◌, ◌⊎◌, ◌<◌, ◌↔◌, ℕ, true, false, List, ◌++◌, codes, Option, Result, Ok, Err, IfErr, MatchResult, OnOk, IsTrue}
 use Rattle.std.specs.Fmt.{decimal}
 use Rattle.std.specs.Io.KnownBytes.{Appends}
 use Rattle.disk.specs.declared.mem_disk.MemDisk.{MemDisk}
-use Rattle.disk.specs.Time.{HasCauses, HasErred}
 use Rattle.terms.specs.Facts.{bad}
 use Rattle.terms.specs.declared.name.Inst.{Inst}
 use Rattle.terms.specs.declared.fault.FaultKind.{FaultKind}
@@ -119,10 +119,10 @@ module _ {D : Type 0} (storage : Ghosts D) where
   -- a store was made of the text, or none was made, with its cause
   pub record Creates (text : List ℕ) (before behind : Option (List ℕ)) (old new : D) (outcome : Outcome) : Type 0 where
     pub answer : Result (Core D) (NotCreated D)
-    pub is : MatchResult answer (IsCreated storage.files (IsTrue storage.is_honest) text) (TellsCreation text old)
+    pub is : MatchResult answer (IsCreated storage text) (TellsCreation text old)
     pub disk : new ≡ disk_of answer
-    pub others : IsTrue storage.is_honest → LeavesOthers storage.files storage.moment storage.left_at old (disk_of answer) (answer_of answer)
-    pub causes : HasCauses storage.failures storage.refusals (creation.Store vault.Device) (creation.Store vault.NoMemory) old (disk_of answer) (answer_of answer)
+    pub others : IsTrue storage.is_honest → LeavesOthers storage old (disk_of answer) (answer_of answer)
+    pub causes : ReportsAs storage (creation.Store vault.Device) (creation.Store vault.NoMemory) old (disk_of answer) (answer_of answer)
     pub told : MatchResult answer (λ core. SaysOrFails before behind (codes "created") Created outcome) (λ refused. (outcome ≡ Failed (failure_of_creation refused.error)) × (behind ≡ before))
 
   -- the same; or the text was not read, and the disk is unchanged
@@ -133,22 +133,22 @@ module _ {D : Type 0} (storage : Ghosts D) where
 
   -- ---- an open store
 
-  -- The store could not be opened, and the outcome says why: the storage.files stand for no store, the device failed, or memory was refused. Nothing was
-  -- written, neither to its storage.files nor to the output.
+  -- The store could not be opened, and the outcome says why: the files stand for no store, the device failed, or memory was refused. Nothing was
+  -- written, neither to its files nor to the output.
   pub record IsNotOpened (before behind : Option (List ℕ)) (old new : D) (outcome : Outcome) : Type 0 where
     pub error : VaultError
     pub told : outcome ≡ Failed (failure.Store error)
     pub of_opening : IsOfOpening error
-    pub only_reads : IsTrue storage.is_honest → OnlyReads storage.files storage.moment storage.left_at old new
-    pub why : IsTrue storage.is_honest → TellsWhy (contents_of (storage.files old)) (HasErred storage.failures storage.refusals old new) (refusal_of {D = D} error)
-    pub causes : HasCauses storage.failures storage.refusals vault.Device vault.NoMemory old new (refusal_of {D = D} error)
+    pub only_reads : IsTrue storage.is_honest → OnlyReads storage old new
+    pub why : IsTrue storage.is_honest → TellsWhy (contents_of (storage.files old)) (Errs storage old new) (refusal_of {D = D} error)
+    pub causes : ReportsAs storage vault.Device vault.NoMemory old new (refusal_of {D = D} error)
     pub nothing_written : behind ≡ before
 
-  -- the store was opened: with all that the storage.files stand for
+  -- the store was opened: with all that the files stand for
   pub record WasOpened (old : D) (core : Core D) : Type 0 where
     pub opened : IsOpened core
     pub finds : IsTrue storage.is_honest → Finds storage.files old core
-    pub only_reads : IsTrue storage.is_honest → OnlyReads storage.files storage.moment storage.left_at old core.vault.disk
+    pub only_reads : IsTrue storage.is_honest → OnlyReads storage old core.vault.disk
 
   pub record Runs (drive : Drive) (input before behind : Option (List ℕ)) (old new : D) (outcome : Outcome) : Type 0 where
     pub first : Core D
@@ -169,14 +169,14 @@ module _ {D : Type 0} (storage : Ghosts D) where
 
   -- The report is of a copy in memory, which has what the store had after its first commits; or there was no memory for the copy.
   pub record ReportsAt (count : ℕ) (format : Format) (before behind : Option (List ℕ)) (old new : D) (outcome : Outcome) : Type 0 where
-    pub only_reads : IsTrue storage.is_honest → OnlyReads storage.files storage.moment storage.left_at old new
+    pub only_reads : IsTrue storage.is_honest → OnlyReads storage old new
     pub told : ((copy : Core MemDisk) × (IsTrue storage.is_honest → StoodAfter count (contents_of (storage.files old)) (graph copy) (environment copy) (facts copy))
         × WritesReport copy format before behind outcome)
         ⊎ ((outcome ≡ Failed failure.NoMemory) × (behind ≡ before))
 
-  -- The log was written, or the output failed, or memory was refused. The storage.files were only read.
+  -- The log was written, or the output failed, or memory was refused. The files were only read.
   pub record Logs (before behind : Option (List ℕ)) (old new : D) (outcome : Outcome) : Type 0 where
-    pub only_reads : IsTrue storage.is_honest → OnlyReads storage.files storage.moment storage.left_at old new
+    pub only_reads : IsTrue storage.is_honest → OnlyReads storage old new
     pub told : ((outcome ≡ Logged) × (IsTrue storage.is_honest → (text : List ℕ) × IsLogOf (contents_of (storage.files old)) text × Appends before behind text)) ⊎ FailsToLog outcome
 
   pub record TurnsOver (before behind : Option (List ℕ)) (old new : D) (outcome : Outcome) : Type 0 where

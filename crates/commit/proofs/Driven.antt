@@ -2,9 +2,6 @@
 use Rattle.disk.specs.declared.storage.Disk.{Ghosts}
 use Rattle.std.proofs.Common.{◌≡◌, ◌≢◌, ◌∙◌, ◌<◌, ◌≤◌, ◌-◌, ◌^◌, min, subst, sym, inl, inr, ℕ, false, [], Option, None, Some, IfSome, IsSome, arith, IsTrue}
 use Rattle.std.proofs.lemmas.Bool.{cases_lt, false≢true}
-use Rattle.disk.specs.declared.side.Side.{Side}
-use Rattle.disk.specs.File.{File}
-use Rattle.disk.specs.Time.{Contents}
 use Rattle.terms.specs.declared.name.Inst.{Inst}
 use Rattle.graph.specs.Graph.{Graph}
 use Rattle.instances.specs.declared.state.State.TheVariants.{Ready, Running}
@@ -47,8 +44,8 @@ pub of_claim : {D : Type 0} (old new : Core D) (at : ℕ) (claimed : Option Inst
 of_claim old new at claimed task is promised = subst (λ (o : Option Inst). IfSome o (λ one. MayClaim old at × (state_of old one ≡ Some Ready) × Moves old new one Running)) is promised
 
 module _
-    {D : Type 0} (storage : Ghosts D) (both : AmongBoth) (gates_stay : IsTrue storage.is_honest → GatesStay storage.files storage.moment storage.left_at)
-    (rest_leaves : IsTrue storage.is_honest → RestLeaves storage.files storage.moment storage.left_at) (gates_rest : IsTrue storage.is_honest → GatesRest storage.files storage.moment storage.left_at) (given : Graph)
+    {D : Type 0} (storage : Ghosts D) (both : AmongBoth) (gates_stay : IsTrue storage.is_honest → GatesStay storage)
+    (rest_leaves : IsTrue storage.is_honest → RestLeaves storage) (gates_rest : IsTrue storage.is_honest → GatesRest storage) (given : Graph)
   where
     -- nothing has run yet
     pub begins : (first : Core D) → given ≡ graph first → NoneRuns first → is_halted first ≡ false → first.in_doubt ≡ [] → (IsTrue storage.is_honest → IsKept storage.files first) → Driven storage given first first

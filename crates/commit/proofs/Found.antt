@@ -1,8 +1,10 @@
 -- What an opening finds, and why it is refused.
 use Rattle.std.proofs.Common.{◌≡◌, ◌∙◌, ap, sym, refl, subst, inl, inr, ℕ, Result, Ok, Err, IfOk, IfErr, IsErrOf}
+use Rattle.disk.specs.Storage.{Errs, ReportsAs}
+use Rattle.disk.specs.declared.storage.Disk.{Ghosts}
 use Rattle.disk.specs.declared.side.Side.{Side}
 use Rattle.disk.specs.File.{File}
-use Rattle.disk.specs.Time.{Contents, HasCauses, HasErred}
+use Rattle.disk.specs.Time.{Contents}
 use Rattle.codec.specs.Image.{environment_in, facts_in}
 use Rattle.holdings.specs.Holdings.{image_of}
 use Rattle.vault.specs.declared.opening.Recovered.{Recovered}
@@ -41,8 +43,8 @@ tells {D} contents erred recovered told T = record {
     apart : (error : VaultError) → IsErrOf {T = Recovered D} {E = VaultError} (Ok recovered) error → ⊥
     apart error is = cc
 
-pub causes : {D : Type 0} (failures refusals : D → ℕ) (old new : D) (recovered : Recovered D) → HasCauses {T = Recovered D} failures refusals Device NoMemory old new (Ok recovered) → (T : Type 0) → HasCauses {T = T} failures refusals Device NoMemory old new (Err NoMemory)
-causes {D} failures refusals old new recovered told T = record {
+pub causes : {D : Type 0} (storage : Ghosts D) (old new : D) (recovered : Recovered D) → ReportsAs {T = Recovered D} storage Device NoMemory old new (Ok recovered) → (T : Type 0) → ReportsAs {T = T} storage Device NoMemory old new (Err NoMemory)
+causes {D} storage old new recovered told T = record {
   device = (λ is. absurd (other is), λ grew. absurd (apart (told.device.1 grew)));
   refused = λ changed. refl;
   later = told.later;
@@ -71,26 +73,26 @@ tells_alike contents erred error told = record {
   cause = told.cause;
 }
 
-module _ {D : Type 0} (failures refusals : D → ℕ) (old : D) (recovered : Recovered D) where
+module _ {D : Type 0} (storage : Ghosts D) (old : D) (recovered : Recovered D) where
   pub tells_either : (contents : Contents) (result : Result (Core D) (Refused D)) → disk_of result ≡ recovered.vault.disk → IfErr result (λ refused. refused.error ≡ NoMemory)
-      → TellsWhy {T = Recovered D} contents (HasErred failures refusals old recovered.vault.disk) (Ok recovered) → TellsWhy contents (HasErred failures refusals old (disk_of result)) (answer_of result)
+      → TellsWhy {T = Recovered D} contents (Errs storage old recovered.vault.disk) (Ok recovered) → TellsWhy contents (Errs storage old (disk_of result)) (answer_of result)
   tells_either contents (Ok core) disk error told = record {
     nothing = tt;
-    heads = λ other fault. elim (told.heads other fault) [ inl is ↦ absurd (apart other is) | inr there ↦ inr (subst (λ d. HasErred failures refusals old d) (sym disk) there) ];
+    heads = λ other fault. elim (told.heads other fault) [ inl is ↦ absurd (apart other is) | inr there ↦ inr (subst (λ d. Errs storage old d) (sym disk) there) ];
     cause = tt;
   }
     where
       apart : (other : VaultError) → IsErrOf {T = Recovered D} {E = VaultError} (Ok recovered) other → ⊥
       apart other is = cc
   tells_either contents (Err refused) disk error told =
-      subst (λ e. TellsWhy {T = Core D} contents (HasErred failures refusals old refused.disk) (Err e)) (sym error)
-      (subst (λ d. TellsWhy {T = Core D} contents (HasErred failures refusals old d) (Err NoMemory)) (sym disk)
-      (tells contents (HasErred failures refusals old recovered.vault.disk) recovered told (Core D)))
+      subst (λ e. TellsWhy {T = Core D} contents (Errs storage old refused.disk) (Err e)) (sym error)
+      (subst (λ d. TellsWhy {T = Core D} contents (Errs storage old d) (Err NoMemory)) (sym disk)
+      (tells contents (Errs storage old recovered.vault.disk) recovered told (Core D)))
 
   pub causes_either : (result : Result (Core D) (Refused D)) → disk_of result ≡ recovered.vault.disk → IfErr result (λ refused. refused.error ≡ NoMemory)
-      → HasCauses {T = Recovered D} failures refusals Device NoMemory old recovered.vault.disk (Ok recovered) → HasCauses failures refusals Device NoMemory old (disk_of result) (answer_of result)
+      → ReportsAs {T = Recovered D} storage Device NoMemory old recovered.vault.disk (Ok recovered) → ReportsAs storage Device NoMemory old (disk_of result) (answer_of result)
   causes_either (Ok core) disk error told =
-      subst (λ d. HasCauses {T = Core D} failures refusals Device NoMemory old d (Ok core)) (sym disk) (record {
+      subst (λ d. ReportsAs {T = Core D} storage Device NoMemory old d (Ok core)) (sym disk) (record {
         device = (λ is. absurd (none is), λ grew. absurd (apart Device (told.device.1 grew)));
         refused = λ changed. absurd (apart NoMemory (told.refused changed));
         later = told.later;
@@ -102,9 +104,9 @@ module _ {D : Type 0} (failures refusals : D → ℕ) (old : D) (recovered : Rec
       none : IsErrOf {T = Core D} {E = VaultError} (Ok core) Device → ⊥
       none is = cc
   causes_either (Err refused) disk error told =
-      subst (λ e. HasCauses {T = Core D} failures refusals Device NoMemory old refused.disk (Err e)) (sym error)
-      (subst (λ d. HasCauses {T = Core D} failures refusals Device NoMemory old d (Err NoMemory)) (sym disk)
-      (causes failures refusals old recovered.vault.disk recovered told (Core D)))
+      subst (λ e. ReportsAs {T = Core D} storage Device NoMemory old refused.disk (Err e)) (sym error)
+      (subst (λ d. ReportsAs {T = Core D} storage Device NoMemory old d (Err NoMemory)) (sym disk)
+      (causes storage old recovered.vault.disk recovered told (Core D)))
 
 -- an opening may be refused memory
 pub of_memory : IsOfOpening NoMemory

@@ -1,11 +1,9 @@
 -- How a core goes on: by nothing, or by several puts that are tried as one commit.
+use Rattle.disk.specs.Storage.{Errs, Leaves}
 use Rattle.disk.specs.declared.storage.Disk.{Ghosts}
 use Rattle.std.proofs.Common.{◌≡◌, ◌∙◌, ◌≤◌, ◌++◌, ap, refl, sym, subst, inl, inr, ℕ, Bool, true, false, List, [], ◌∷◌, length, Result, Err, arith, IsTrue}
 use Rattle.std.proofs.lemmas.Bool.{false≢true}
 use Rattle.std.proofs.lemmas.List.{append-nil}
-use Rattle.disk.specs.declared.side.Side.{Side}
-use Rattle.disk.specs.File.{File}
-use Rattle.disk.specs.Time.{Contents, LeavesOnly, HasErred}
 use Rattle.terms.specs.declared.event.Event.{Event}
 use Rattle.terms.specs.Commits.{Commit}
 use Rattle.terms.specs.Facts as stated
@@ -31,7 +29,7 @@ in_one_of [] some = absurd (omega (arith, some))
 in_one_of (first ∷ events) some = refl
 
 module _ {D : Type 0} (storage : Ghosts D)
-    (leaves : IsTrue storage.is_honest → RestLeaves storage.files storage.moment storage.left_at) (gates_rest : IsTrue storage.is_honest → GatesRest storage.files storage.moment storage.left_at) where
+    (leaves : IsTrue storage.is_honest → RestLeaves storage) (gates_rest : IsTrue storage.is_honest → GatesRest storage) where
   -- a core that is as it was
   pub nothing_came : (core : Core D) → (IsTrue storage.is_honest → IsKept storage.files core) → (is_halted core ≡ false → core.in_doubt ≡ []) → GoesOn storage core core []
   nothing_came core kept settled = record {
@@ -44,16 +42,16 @@ module _ {D : Type 0} (storage : Ghosts D)
     later = omega arith;
   }
 
-  module _ {T : Type 0} (append : IsTrue storage.is_honest → AppendLeaves storage.files storage.moment storage.left_at) (held : IsTrue storage.is_honest → HeldLeaves storage.files storage.moment storage.left_at) (old new : Core D) (commit : Commit) (legal : AreLegalFrom (graph old) (facts old) commit)
-      (kept : IsTrue storage.is_honest → IsKept storage.files old) (kept_after : IsTrue storage.is_honest → IsKept storage.files new) (settled : is_halted old ≡ false → old.in_doubt ≡ []) (moments : IsTrue storage.is_honest → is_halted old ≡ false → CrashLeaves storage.files storage.moment storage.left_at old new commit) where
+  module _ {T : Type 0} (append : IsTrue storage.is_honest → AppendLeaves storage) (held : IsTrue storage.is_honest → HeldLeaves storage) (old new : Core D) (commit : Commit) (legal : AreLegalFrom (graph old) (facts old) commit)
+      (kept : IsTrue storage.is_honest → IsKept storage.files old) (kept_after : IsTrue storage.is_honest → IsKept storage.files new) (settled : is_halted old ≡ false → old.in_doubt ≡ []) (moments : IsTrue storage.is_honest → is_halted old ≡ false → CrashLeaves storage old new commit) where
     -- puts that were committed
-    pub commit_came : TakenInTurn → (result : Result T CoreError) → TakesPuts old new commit → new.in_doubt ≡ [] → Halts storage.failures storage.refusals old new result → GoesOn storage old new (commit ∷ [])
+    pub commit_came : TakenInTurn → (result : Result T CoreError) → TakesPuts old new commit → new.in_doubt ≡ [] → Halts storage old new result → GoesOn storage old new (commit ∷ [])
     commit_came law result takes none halts =
         let adds = law old.machine commit new.machine takes.takes in
         let sets : facts new ≡ with_facts (facts old) (stated.facts commit) = λ i fact. adds.all fact i in
         let given : environment new ≡ with_facts (environment old) (stated.environment commit) = λ i fact. adds.given fact i in
         let one : (commit ++ []) ++ new.in_doubt ≡ commit = ap (λ (events : List Event). (commit ++ []) ++ events) none ∙ append-nil (commit ++ []) ∙ append-nil commit in
-        let crash : IsTrue storage.is_honest → LeavesOnly storage.moment storage.left_at old.vault.disk new.vault.disk (StandsForBeginning (graph old) (environment old) (facts old) [] (commit ∷ [])) =
+        let crash : IsTrue storage.is_honest → Leaves storage old.vault.disk new.vault.disk (StandsForBeginning (graph old) (environment old) (facts old) [] (commit ∷ [])) =
         λ on. begins storage append old new commit on (moments on takes.working.0)
         in
         record {
@@ -65,7 +63,7 @@ module _ {D : Type 0} (storage : Ghosts D)
             generation = λ _. takes.generation;
             end = λ _. with_record new.vault.journal.end old.vault.journal.end (commit_length commit) takes.moved;
             crashes = λ on.
-                subst (λ (events : List Event). LeavesOnly storage.moment storage.left_at old.vault.disk new.vault.disk (StandsForBeginning (graph old) (environment old) (facts old) [] (commit ∷ in_one events))) (sym none) (crash on);
+                subst (λ (events : List Event). Leaves storage old.vault.disk new.vault.disk (StandsForBeginning (graph old) (environment old) (facts old) [] (commit ∷ in_one events))) (sym none) (crash on);
             acknowledged = acknowledged_all storage held old new commit takes.working.1 adds.graph sets given kept_after crash;
             gates = λ on has. (moments on working).gates has;
             halts = (λ halted. elim (halts.halts.0 halted) [ inl before ↦ absurd (false≢true (sym working ∙ before)) | inr erred ↦ erred ], λ erred. halts.halts.1 (inr erred));
@@ -76,7 +74,7 @@ module _ {D : Type 0} (storage : Ghosts D)
         }
 
     -- puts that were refused
-    pub commit_refused : (error : CoreError) → 1 ≤ length commit → IsUnchanged old new → AreInDoubt {T = T} old new commit (Err error) → Halts {T = T} storage.failures storage.refusals old new (Err error) → GoesOn storage old new []
+    pub commit_refused : (error : CoreError) → 1 ≤ length commit → IsUnchanged old new → AreInDoubt {T = T} old new commit (Err error) → Halts {T = T} storage old new (Err error) → GoesOn storage old new []
     commit_refused error some same doubt halts = record { went = λ working. at working (is_halted new) refl; stays = λ halted. (still halted, refl); settled = λ goes. by_old goes (is_halted old) refl; later = halts.disk.later }
       where
         still : is_halted old ≡ true → KeepsStore old new
@@ -98,9 +96,9 @@ module _ {D : Type 0} (storage : Ghosts D)
         at working true stops =
             let in_doubt : new.in_doubt ≡ commit = doubt working stops in
             let pending : in_one new.in_doubt ≡ commit ∷ [] = ap in_one in_doubt ∙ in_one_of commit some in
-            let erred : HasErred storage.failures storage.refusals old.vault.disk new.vault.disk = elim (halts.halts.0 stops) [ inl before ↦ absurd (false≢true (sym working ∙ before)) | inr it ↦ it ] in
-            let crash : IsTrue storage.is_honest → LeavesOnly storage.moment storage.left_at old.vault.disk new.vault.disk (StandsForBeginning (graph old) (environment old) (facts old) [] (in_one new.in_doubt)) = λ on.
-            subst (λ (commits : List Commit). LeavesOnly storage.moment storage.left_at old.vault.disk new.vault.disk (StandsForBeginning (graph old) (environment old) (facts old) [] commits)) (sym pending)
+            let erred : Errs storage old.vault.disk new.vault.disk = elim (halts.halts.0 stops) [ inl before ↦ absurd (false≢true (sym working ∙ before)) | inr it ↦ it ] in
+            let crash : IsTrue storage.is_honest → Leaves storage old.vault.disk new.vault.disk (StandsForBeginning (graph old) (environment old) (facts old) [] (in_one new.in_doubt)) = λ on.
+            subst (λ (commits : List Commit). Leaves storage old.vault.disk new.vault.disk (StandsForBeginning (graph old) (environment old) (facts old) [] commits)) (sym pending)
             (begins storage append old new commit on (moments on working))
             in
             record {

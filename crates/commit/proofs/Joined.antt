@@ -4,9 +4,7 @@ use Rattle.std.proofs.Common.{◌≤◌, ◌≡◌, ◌∙◌, ◌+◌, ◌++◌
 use Rattle.std.proofs.lemmas.Bool.{false≢true}
 use Rattle.std.proofs.lemmas.List.{append_assoc, append-nil, length-append}
 use Rattle.std.specs.List.{AllByRecursion}
-use Rattle.disk.specs.declared.side.Side.{Side}
 use Rattle.disk.specs.Erred.{HasErredFrom, later_erred, erred_later}
-use Rattle.disk.specs.File.{File}
 use Rattle.disk.specs.Moments.{joined_since, leaves_at_last}
 use Rattle.disk.specs.Time.{Contents, LeavesSince}
 use Rattle.terms.specs.declared.event.Event.{Event}
@@ -58,10 +56,10 @@ both_within mid begun first second both doubt all one two = omega (arith, all, o
 
 module _ {D : Type 0} (storage : Ghosts D) (both : AmongBoth) where
   -- a run after another one, of which nothing is in doubt
-  pub since_joined : (IsTrue storage.is_honest → GatesStay storage.files storage.moment storage.left_at) → (begun : Begun) (left : ℕ → Contents → Type 0) (mid new : Core D) (first second : List Commit)
+  pub since_joined : (IsTrue storage.is_honest → GatesStay storage) → (begun : Begun) (left : ℕ → Contents → Type 0) (mid new : Core D) (first second : List Commit)
       → is_halted mid ≡ false → mid.in_doubt ≡ []
-      → RunsSince storage.moment storage.left_at storage.failures storage.refusals (IsTrue storage.is_honest) begun left mid first → Runs storage mid new second
-      → RunsSince storage.moment storage.left_at storage.failures storage.refusals (IsTrue storage.is_honest) begun left new (first ++ second)
+      → RunsSince storage begun left mid first → Runs storage mid new second
+      → RunsSince storage begun left new (first ++ second)
   since_joined gates_stay begun left mid new first second working settled one two =
       let all_of_first = subst (λ (events : List Event). events_of first ++ events ≡ events_of first) (sym settled) (append-nil (events_of first)) in
       let all_commits = subst (λ (events : List Event). first ++ in_one events ≡ first) (sym settled) (append-nil first) in
@@ -123,9 +121,9 @@ module _ {D : Type 0} (storage : Ghosts D) (both : AmongBoth) where
             (last.0, both_within mid.allowance begun.allowance (length (events_of first)) (length (events_of second)) (length (events_of (first ++ second))) (length new.in_doubt) counted one.spent last.1);
       }
 
-  pub goes_on : (IsTrue storage.is_honest → GatesStay storage.files storage.moment storage.left_at) → (old mid new : Core D) → is_halted mid ≡ false → mid.in_doubt ≡ []
+  pub goes_on : (IsTrue storage.is_honest → GatesStay storage) → (old mid new : Core D) → is_halted mid ≡ false → mid.in_doubt ≡ []
       → RunsOn storage old mid → RunsOn storage mid new → RunsOn storage old new
   goes_on gates_stay old mid new working settled one two = record {
     commits = one.commits ++ two.commits;
-    runs = since_joined gates_stay (begun_by storage.files storage.moment storage.failures storage.refusals old) (storage.left_at old.vault.disk) mid new one.commits two.commits working settled one.runs two.runs;
+    runs = since_joined gates_stay (begun_by storage old) (storage.left_at old.vault.disk) mid new one.commits two.commits working settled one.runs two.runs;
   }

@@ -1,5 +1,4 @@
 pub mod Acknowledged
-mod Ahead
 pub mod Allowed
 pub mod Answered
 mod Batches
@@ -21,7 +20,6 @@ pub mod Ran
 pub mod Roomy
 pub mod Running
 pub mod Same
-mod Short
 pub mod Taken
 pub mod Together
 pub mod Told

@@ -1,11 +1,9 @@
 -- Several puts of the environment that are committed as one: after room was made, and what is promised of them.
+use Rattle.disk.specs.Storage.{Errs}
 use Rattle.disk.specs.declared.storage.Disk.{Ghosts}
-use Rattle.std.proofs.Common.{◌≡◌, ◌∙◌, ◌≤◌, ◌+◌, ap, sym, refl, subst, inl, inr, ℕ, zero, suc, true, false, List, [], ◌∷◌, length, take, Result, Ok, Err, IfErr, OnOk, OnErr, arith, IsTrue}
+use Rattle.std.proofs.Common.{◌≡◌, ◌∙◌, ◌≤◌, ◌+◌, ap, sym, refl, subst, inl, inr, ℕ, zero, suc, true, false, List, [], ◌∷◌, length, take, Result, Ok, Err, IfErr, IfOk, OnOk, OnErr, arith, IsTrue}
 use Rattle.std.proofs.lemmas.Bool.{false≢true}
 use Rattle.std.specs.List.{AllByRecursion}
-use Rattle.disk.specs.declared.side.Side.{Side}
-use Rattle.disk.specs.File.{File}
-use Rattle.disk.specs.Time.{Contents, HasErred}
 use Rattle.terms.specs.declared.event.Event.{Event}
 use Rattle.terms.specs.Commits.{Commit}
 use Rattle.instances.specs.Running.{NoMoreRun}
@@ -68,6 +66,11 @@ pub taken_some : {D : Type 0} (old new : Core D) (commit : Commit) → 1 ≤ len
 taken_some old new [] some it = absurd (omega (arith, some))
 taken_some old new (first ∷ commit) some it = it
 
+-- what is said of an answer, without the answer
+taken_of : {P : Type 0} (result : Result ℕ CoreError) (count : ℕ) → IfOk result (λ answer. (answer ≡ count) × P) → OnOk result P
+taken_of (Ok answer) count it = it.1
+taken_of (Err error) count it = tt
+
 module _ {D : Type 0} (storage : Ghosts D) (old mid : Core D) (room : GivesRoom old mid) where
   taken_before : (new : Core D) (commit : Commit) → 1 ≤ length commit → TakesPuts mid new commit → TakesPuts old new commit
   taken_before new commit some it = record {
@@ -89,20 +92,20 @@ module _ {D : Type 0} (storage : Ghosts D) (old mid : Core D) (room : GivesRoom 
   refused_before commit (Store NotAStore) it = absurd it
   refused_before commit (Store Exists) it = absurd it
 
-  pub tries : (new : Core D) (commit : Commit) (result : Result ℕ CoreError) → 1 ≤ length commit → OnOk result (TakesPuts mid new commit) → OnErr result (IsUnchanged mid new) → IfErr result (RefusesPuts mid commit) → TellsFullAll mid commit result
-      → Halts storage.failures storage.refusals mid new result → AreInDoubt mid new commit result → (IsTrue storage.is_honest → CrashLeaves storage.files storage.moment storage.left_at mid new commit) → TriesPuts storage old new commit result
+  pub tries : (new : Core D) (commit : Commit) (result : Result ℕ CoreError) → 1 ≤ length commit → IfOk result (λ answer. (answer ≡ length commit) × TakesPuts mid new commit) → OnErr result (IsUnchanged mid new) → IfErr result (RefusesPuts mid commit) → TellsFullAll mid commit result
+      → Halts storage mid new result → AreInDoubt mid new commit result → (IsTrue storage.is_honest → CrashLeaves storage mid new commit) → TriesPuts storage old new commit result
   tries new commit result some ok err refused full halting doubt moments = record {
-    takes = on_ok result (TakesPuts mid new commit) (TakesAny old new commit) (λ it. taken_any old new commit some (taken_before new commit some it)) ok;
+    takes = on_ok result (TakesPuts mid new commit) (TakesAny old new commit) (λ it. taken_any old new commit some (taken_before new commit some it)) (taken_of result (length commit) ok);
     unchanged = on_err result (IsUnchanged mid new) (IsUnchanged old new) (unchanged storage old mid room new) err;
     refused = if_err result (RefusesPuts mid commit) (RefusesPuts old commit) (refused_before commit) refused;
     full = λ working more long. full more (too_long_then old mid room commit long);
     doubt = on_err result (is_halted mid ≡ false → is_halted new ≡ true → new.in_doubt ≡ commit) (is_halted old ≡ false → is_halted new ≡ true → new.in_doubt ≡ commit) (λ so working. so (halted old mid room ∙ working)) doubt;
-    moments = λ on working. moments_before old mid room storage.files storage.moment storage.left_at new commit (moments on);
-    halts = halts_before old mid room storage.failures storage.refusals new result halting;
+    moments = λ on working. moments_before old mid room storage new commit (moments on);
+    halts = halts_before old mid room storage new result halting;
   }
 
   -- there was no memory for the room
-  pub no_room_for : (commit : Commit) → 1 ≤ length commit → is_halted old ≡ false → (IsTrue storage.is_honest → HeldLeaves storage.files storage.moment storage.left_at) → (IsTrue storage.is_honest → GatesRest storage.files storage.moment storage.left_at) → (IsTrue storage.is_honest → IsKept storage.files old)
+  pub no_room_for : (commit : Commit) → 1 ≤ length commit → is_halted old ≡ false → (IsTrue storage.is_honest → HeldLeaves storage) → (IsTrue storage.is_honest → GatesRest storage) → (IsTrue storage.is_honest → IsKept storage.files old)
       → TriesPuts storage old mid commit (Err (Store NoMemory))
   no_room_for commit some working held gates kept = record {
     takes = tt;
@@ -113,8 +116,8 @@ module _ {D : Type 0} (storage : Ghosts D) (old mid : Core D) (room : GivesRoom 
     refused = (working, some);
     full = λ _ more long. inr refl;
     doubt = λ _ stops. absurd (false≢true (sym working ∙ sym (halted old mid room) ∙ stops));
-    moments = λ on _. rests_before storage.files storage.moment storage.left_at old mid commit (held on) (gates on) (kept on) working room.vault;
-    halts = unhalted {T = ℕ} storage.failures storage.refusals old mid (Store NoMemory) working room.vault room.in_doubt (memory_halts storage old mid room) (memory_device storage old mid room);
+    moments = λ on _. rests_before storage old mid commit (held on) (gates on) (kept on) working room.vault;
+    halts = unhalted {T = ℕ} storage old mid (Store NoMemory) working room.vault room.in_doubt (memory_halts storage old mid room) (memory_device storage old mid room);
   }
 
 -- ---- nothing is tried
@@ -132,7 +135,7 @@ module _ {D : Type 0} (storage : Ghosts D) (core : Core D) where
     full = λ working. absurd (false≢true (sym working ∙ stops));
     doubt = λ working. absurd (false≢true (sym working ∙ stops));
     moments = λ on working. absurd (false≢true (sym working ∙ stops));
-    halts = halted_still {T = ℕ} storage.failures storage.refusals core core stops refl refl;
+    halts = halted_still {T = ℕ} storage core core stops refl refl;
   }
 
   pub halted_goes_on : is_halted core ≡ true → GoesOn storage core core []
@@ -144,14 +147,14 @@ module _ {D : Type 0} (storage : Ghosts D) (core : Core D) where
   }
 
   -- or because none of the puts comes
-  pub nothing_tried : is_halted core ≡ false → core.in_doubt ≡ [] → (IsTrue storage.is_honest → HeldLeaves storage.files storage.moment storage.left_at) → (IsTrue storage.is_honest → GatesRest storage.files storage.moment storage.left_at) → (IsTrue storage.is_honest → IsKept storage.files core) → TriesPuts storage core core [] (Ok 0)
+  pub nothing_tried : is_halted core ≡ false → core.in_doubt ≡ [] → (IsTrue storage.is_honest → HeldLeaves storage) → (IsTrue storage.is_honest → GatesRest storage) → (IsTrue storage.is_honest → IsKept storage.files core) → TriesPuts storage core core [] (Ok 0)
   nothing_tried working settled held gates kept = record {
     takes = (working, refl);
     unchanged = tt;
     refused = tt;
     full = λ _ more. absurd (omega (arith, more));
     doubt = tt;
-    moments = λ on _. rests_before storage.files storage.moment storage.left_at core core [] (held on) (gates on) (kept on) working refl;
+    moments = λ on _. rests_before storage core core [] (held on) (gates on) (kept on) working refl;
     halts = record {
       halts = (λ is. inl is, λ both. elim both [ inl is ↦ is | inr erred ↦ absurd (calm erred) ]);
       halted = (λ is. absurd (never Halted is), λ is. absurd (false≢true (sym working ∙ is)));
@@ -161,7 +164,7 @@ module _ {D : Type 0} (storage : Ghosts D) (core : Core D) where
     };
   }
     where
-      calm : HasErred storage.failures storage.refusals core.vault.disk core.vault.disk → ⊥
+      calm : Errs storage core.vault.disk core.vault.disk → ⊥
       calm (inl grew) = omega (arith, grew)
       calm (inr changed) = changed refl
 
@@ -171,7 +174,7 @@ module _ {D : Type 0} (storage : Ghosts D) (core : Core D) where
 -- ---- how the core goes on
 
 module _ {D : Type 0} (storage : Ghosts D) where
-  pub puts_go_on : TakenInTurn → (IsTrue storage.is_honest → AppendLeaves storage.files storage.moment storage.left_at) → (IsTrue storage.is_honest → HeldLeaves storage.files storage.moment storage.left_at) → (IsTrue storage.is_honest → RestLeaves storage.files storage.moment storage.left_at) → (IsTrue storage.is_honest → GatesRest storage.files storage.moment storage.left_at)
+  pub puts_go_on : TakenInTurn → (IsTrue storage.is_honest → AppendLeaves storage) → (IsTrue storage.is_honest → HeldLeaves storage) → (IsTrue storage.is_honest → RestLeaves storage) → (IsTrue storage.is_honest → GatesRest storage)
       → (old new : Core D) (commit : Commit) (result : Result ℕ CoreError) → 1 ≤ length commit → AreLegalFrom (graph old) (facts old) commit → (is_halted old ≡ false → old.in_doubt ≡ []) → (IsTrue storage.is_honest → IsKept storage.files old) → (IsTrue storage.is_honest → IsKept storage.files new)
       → TriesPuts storage old new commit result → PutsGoOn storage old new commit result
   puts_go_on law append held rest_leaves gates_rest old new commit (Ok count) some legal settled kept kept_after it =

@@ -1,11 +1,9 @@
 -- The whole of what a put and a finish promise, from the parts that the calls within them promise.
+use Rattle.disk.specs.Storage.{ReportsAs}
 use Rattle.disk.specs.declared.storage.Disk.{Ghosts}
 use Rattle.std.proofs.Common.{◌≡◌, ◌∙◌, ap, sym, refl, subst, inl, inr, ◌⊎◌, ℕ, true, Some, [], ◌∷◌, Result, Err, OnOk, OnErr, IfErr, arith}
 use Rattle.std.proofs.lemmas.Bool.{false≢true}
 use Rattle.std.specs.Prelude.{is_some, IsTrue}
-use Rattle.disk.specs.declared.side.Side.{Side}
-use Rattle.disk.specs.File.{File}
-use Rattle.disk.specs.Time.{Contents, HasCauses}
 use Rattle.terms.specs.declared.name.Inst.{Inst}
 use Rattle.terms.specs.declared.name.Tag.{Tag}
 use Rattle.terms.specs.declared.event.Event.{Event}
@@ -72,11 +70,11 @@ not_no_memory : (Store Halted ≡ Store NoMemory) → ⊥
 not_no_memory is = cc
 
 -- it stays as it is
-pub halted_still : {D T : Type 0} (failures refusals : D → ℕ) (old new : Core D) → is_halted old ≡ true → new.vault ≡ old.vault → new.in_doubt ≡ old.in_doubt → Halts {T = T} failures refusals old new (Err (Store Halted))
-halted_still {D} {T} failures refusals old new halted vault doubt = record {
+pub halted_still : {D T : Type 0} (storage : Ghosts D) (old new : Core D) → is_halted old ≡ true → new.vault ≡ old.vault → new.in_doubt ≡ old.in_doubt → Halts {T = T} storage old new (Err (Store Halted))
+halted_still {D} {T} storage old new halted vault doubt = record {
   halts = (λ _. inl halted, λ _. ap (λ (v : Vault D). v.halted) vault ∙ halted);
   halted = (λ _. halted, λ _. refl);
-  disk = subst (λ (v : Vault D). HasCauses {T = T} failures refusals (Store Device) (Store NoMemory) old.vault.disk v.disk (Err (Store Halted))) (sym vault) (record {
+  disk = subst (λ (v : Vault D). ReportsAs {T = T} storage (Store Device) (Store NoMemory) old.vault.disk v.disk (Err (Store Halted))) (sym vault) (record {
     device = (λ is. absurd (not_device (inside is)), λ grew. absurd (omega (arith, grew)));
     refused = λ changed. absurd (changed refl);
     later = omega arith;
@@ -106,12 +104,12 @@ module _ {D : Type 0} (storage : Ghosts D) (old mid : Core D) (room : GivesRoom 
 
   -- a put after room was made for it
   pub put_as : {T : Type 0} (new : Core D) (why : Refusal → Type 0) (event : Event) (result : Result T CoreError) → OnOk result (Takes mid new event) → OnErr result (IsUnchanged mid new) → IfErr result (Refuses mid NoCause event)
-      → TellsFull mid event result → Halts storage.failures storage.refusals mid new result → IsInDoubt mid new event result → (IsTrue storage.is_honest → CrashLeaves storage.files storage.moment storage.left_at mid new (event ∷ []))
+      → TellsFull mid event result → Halts storage mid new result → IsInDoubt mid new event result → (IsTrue storage.is_honest → CrashLeaves storage mid new (event ∷ []))
       → CommitsAs storage old new why event result
   put_as new why event result ok err refused full halting doubt moments = record {
-    commits = commits old mid room storage.files storage.moment storage.left_at (IsTrue storage.is_honest) new why event result (record { takes = ok; refused = refused; full = full; doubt = doubt; moments = λ on working. moments on });
+    commits = commits old mid room storage new why event result (record { takes = ok; refused = refused; full = full; doubt = doubt; moments = λ on working. moments on });
     unchanged = on_err result (IsUnchanged mid new) (IsUnchanged old new) (unchanged new) err;
-    halts = halts old mid room storage.failures storage.refusals new result halting;
+    halts = halts old mid room storage new result halting;
   }
 
   -- a put that is refused before that
@@ -134,10 +132,10 @@ module _ {D : Type 0} (storage : Ghosts D) (old mid : Core D) (room : GivesRoom 
   pub memory_device : Store NoMemory ≡ Store Device → ⊥
   memory_device is = cc
 
-  halts_first : {T : Type 0} (why : Refusal → Type 0) (event : Event) (error : CoreError) → RefusesFirst old why event error → Halts {T = T} storage.failures storage.refusals old mid (Err error)
-  halts_first {T} why event (Refused refusal) it = unhalted {T = T} storage.failures storage.refusals old mid (Refused refusal) it.0 room.vault room.in_doubt (refusal_apart refusal Halted) (refusal_apart refusal Device)
-  halts_first {T} why event (Store Halted) it = halted_still {T = T} storage.failures storage.refusals old mid it room.vault room.in_doubt
-  halts_first {T} why event (Store NoMemory) it = unhalted {T = T} storage.failures storage.refusals old mid (Store NoMemory) it.0 room.vault room.in_doubt memory_halts memory_device
+  halts_first : {T : Type 0} (why : Refusal → Type 0) (event : Event) (error : CoreError) → RefusesFirst old why event error → Halts {T = T} storage old mid (Err error)
+  halts_first {T} why event (Refused refusal) it = unhalted {T = T} storage old mid (Refused refusal) it.0 room.vault room.in_doubt (refusal_apart refusal Halted) (refusal_apart refusal Device)
+  halts_first {T} why event (Store Halted) it = halted_still {T = T} storage old mid it room.vault room.in_doubt
+  halts_first {T} why event (Store NoMemory) it = unhalted {T = T} storage old mid (Store NoMemory) it.0 room.vault room.in_doubt memory_halts memory_device
   halts_first why event (Store Full) it = absurd it
   halts_first why event (Store Device) it = absurd it
   halts_first why event (Store (Damaged side place)) it = absurd it
@@ -145,14 +143,14 @@ module _ {D : Type 0} (storage : Ghosts D) (old mid : Core D) (room : GivesRoom 
   halts_first why event (Store Exists) it = absurd it
 
   pub refused_as : {T : Type 0} (why : Refusal → Type 0) (event : Event) (error : CoreError) → ((refusal : Refusal) → why refusal → IsLegal (graph old) (facts old) event → ⊥) → RefusesFirst old why event error
-      → (IsTrue storage.is_honest → HeldLeaves storage.files storage.moment storage.left_at) → (IsTrue storage.is_honest → GatesRest storage.files storage.moment storage.left_at) → (IsTrue storage.is_honest → IsKept storage.files old) → CommitsAs {T = T} storage old mid why event (Err error)
+      → (IsTrue storage.is_honest → HeldLeaves storage) → (IsTrue storage.is_honest → GatesRest storage) → (IsTrue storage.is_honest → IsKept storage.files old) → CommitsAs {T = T} storage old mid why event (Err error)
   refused_as {T} why event error never it held gates kept = record {
     commits = record {
       takes = tt;
       refused = refuses why event error it;
       full = full_first {T = T} old why event error never it;
       doubt = λ working stops. absurd (false≢true (sym working ∙ ap (λ (v : Vault D). v.halted) (sym room.vault) ∙ stops));
-      moments = λ on working. rests storage.files storage.moment storage.left_at old mid (event ∷ []) (held on) (gates on) (kept on) working room.vault;
+      moments = λ on working. rests storage old mid (event ∷ []) (held on) (gates on) (kept on) working room.vault;
     };
     unchanged = record {
       stays = record { graph = room.machine.graph; facts = room.machine.facts; environment = room.machine.environment; allowance = room.allowance; latest = room.latest };
@@ -167,12 +165,12 @@ pub ends_halted : {D : Type 0} (storage : Ghosts D) (old new : Core D) (task : I
     → is_halted old ≡ true → machine.Moves old.machine new.machine task Ready → new.vault ≡ old.vault → new.in_doubt ≡ old.in_doubt → new.latest ≡ old.latest → new.allowance ≡ old.allowance
     → Ends storage old new task outcome (Err (Store Halted))
 ends_halted storage old new task outcome end is_end halted moves vault doubt latest allowance = record {
-  finishes = record { end = end; is_end = is_end; commits = refused_halted {T = Committed} storage.files storage.moment storage.left_at (IsTrue storage.is_honest) old new (RefusesEnd (facts old)) end halted; told = tt };
+  finishes = record { end = end; is_end = is_end; commits = refused_halted {T = Committed} storage old new (RefusesEnd (facts old)) end halted; told = tt };
   err = record {
     stays = record { graph = moves.graph; facts = moves.facts; environment = moves.environment; allowance = allowance; latest = latest };
     ready = moves.here;
     others = moves.others;
   };
-  halts = halted_still {T = Committed} storage.failures storage.refusals old new halted vault doubt;
+  halts = halted_still {T = Committed} storage old new halted vault doubt;
   runs = λ working. absurd (false≢true (sym working ∙ halted));
 }

@@ -1,9 +1,9 @@
 -- What is committed after room was made is committed from the state before that.
 use Rattle.std.proofs.Common.{◌≡◌, ◌∙◌, ◌↔◌, ◌⊎◌, ◌≤◌, ◌+◌, ◌||◌, ap, sym, refl, subst, inl, inr, ℕ, ℤ, true, false, List, [], ◌∷◌, Result, Ok, Err, IsErrOf, arith}
 use Rattle.std.proofs.lemmas.Bool.{false≢true}
-use Rattle.disk.specs.declared.side.Side.{Side}
-use Rattle.disk.specs.File.{File}
-use Rattle.disk.specs.Time.{Contents, LeavesOnly, HasCauses, HasErred}
+use Rattle.disk.specs.Storage.{Errs, Leaves, ReportsAs}
+use Rattle.disk.specs.declared.storage.Disk.{Ghosts}
+use Rattle.disk.specs.Time.{HasErred}
 use Rattle.disk.specs.Moments.{weakened}
 use Rattle.terms.specs.declared.name.Addr.{Addr}
 use Rattle.terms.specs.declared.name.Inst.{Inst}
@@ -83,16 +83,16 @@ module _ {D : Type 0} (old mid : Core D) (room : GivesRoom old mid) where
   refuses why event (Store Exists) it = absurd it
 
   -- at each moment a crash leaves what it may
-  pub moments : (files : D → Side → File) (moment : D → ℕ) (left_at : D → ℕ → Contents → Type 0) (new : Core D) (events : List Event) → CrashLeaves files moment left_at mid new events → CrashLeaves files moment left_at old new events
-  moments files moment left_at new events it = record {
+  pub moments : (storage : Ghosts D) (new : Core D) (events : List Event) → CrashLeaves storage mid new events → CrashLeaves storage old new events
+  moments storage new events it = record {
     facts =
-        let from = subst (λ (v : Vault D). LeavesOnly moment left_at v.disk new.vault.disk (StandsBeforeOrAfter (graph mid) (environment mid) (facts mid) events)) room.vault it.facts in
-        let of_graph = subst (λ (g : Graph). LeavesOnly moment left_at old.vault.disk new.vault.disk (StandsBeforeOrAfter g (environment mid) (facts mid) events)) room.machine.graph from in
-        let of_given = subst (λ (E : Facts). LeavesOnly moment left_at old.vault.disk new.vault.disk (StandsBeforeOrAfter (graph old) E (facts mid) events)) given of_graph in
-        subst (λ (X : Facts). LeavesOnly moment left_at old.vault.disk new.vault.disk (StandsBeforeOrAfter (graph old) (environment old) X events)) sets of_given;
+        let from = subst (λ (v : Vault D). Leaves storage v.disk new.vault.disk (StandsBeforeOrAfter (graph mid) (environment mid) (facts mid) events)) room.vault it.facts in
+        let of_graph = subst (λ (g : Graph). Leaves storage old.vault.disk new.vault.disk (StandsBeforeOrAfter g (environment mid) (facts mid) events)) room.machine.graph from in
+        let of_given = subst (λ (E : Facts). Leaves storage old.vault.disk new.vault.disk (StandsBeforeOrAfter (graph old) E (facts mid) events)) given of_graph in
+        subst (λ (X : Facts). Leaves storage old.vault.disk new.vault.disk (StandsBeforeOrAfter (graph old) (environment old) X events)) sets of_given;
     gates = λ has.
-        subst (λ (v : Vault D). LeavesOnly moment left_at v.disk new.vault.disk HasGates) room.vault
-        (it.gates (subst (λ (v : Vault D). HasGates (contents_of (files v.disk))) (sym room.vault) has));
+        subst (λ (v : Vault D). Leaves storage v.disk new.vault.disk HasGates) room.vault
+        (it.gates (subst (λ (v : Vault D). HasGates (contents_of (storage.files v.disk))) (sym room.vault) has));
   }
 
   -- if the event may come, and its record does not fit, `Full` is returned
@@ -102,14 +102,14 @@ module _ {D : Type 0} (old mid : Core D) (room : GivesRoom old mid) where
 
   -- all of it together
   pub commits :
-      {T : Type 0} (files : D → Side → File) (moment : D → ℕ) (left_at : D → ℕ → Contents → Type 0) (honest : Type 0) (new : Core D) (why : Refusal → Type 0) (event : Event) (result : Result T CoreError) →
-      Commits files moment left_at honest mid new NoCause event result → Commits files moment left_at honest old new why event result
-  commits files moment left_at honest new why event result it = record {
+      {T : Type 0} (storage : Ghosts D) (new : Core D) (why : Refusal → Type 0) (event : Event) (result : Result T CoreError) →
+      Commits storage mid new NoCause event result → Commits storage old new why event result
+  commits storage new why event result it = record {
     takes = on_ok result (Takes mid new event) (Takes old new event) (takes new event) it.takes;
     refused = if_err result (Refuses mid NoCause event) (Refuses old why event) (refuses why event) it.refused;
     full = tells_full event result it.full;
     doubt = on_err result (is_halted mid ≡ false → is_halted new ≡ true → new.in_doubt ≡ event ∷ []) (is_halted old ≡ false → is_halted new ≡ true → new.in_doubt ≡ event ∷ []) (λ so working. so (halted ∙ working)) it.doubt;
-    moments = λ on working. moments files moment left_at new (event ∷ []) (it.moments on (halted ∙ working));
+    moments = λ on working. moments storage new (event ∷ []) (it.moments on (halted ∙ working));
   }
 
   pub gives_back : (new : Core D) (instance : Inst) → GivesBack mid new instance → GivesBack old new instance
@@ -125,11 +125,11 @@ module _ {D : Type 0} (old mid : Core D) (room : GivesRoom old mid) where
     others = λ other differs. it.others other differs ∙ room.machine.states other;
   }
 
-  pub halts : {T : Type 0} (failures refusals : D → ℕ) (new : Core D) (result : Result T CoreError) → Halts failures refusals mid new result → Halts failures refusals old new result
-  halts failures refusals new result it = record {
-    halts = subst (λ (v : Vault D). (is_halted new ≡ true) ↔ ((v.halted ≡ true) ⊎ HasErred failures refusals v.disk new.vault.disk)) room.vault it.halts;
+  pub halts : {T : Type 0} (storage : Ghosts D) (new : Core D) (result : Result T CoreError) → Halts storage mid new result → Halts storage old new result
+  halts storage new result it = record {
+    halts = subst (λ (v : Vault D). (is_halted new ≡ true) ↔ ((v.halted ≡ true) ⊎ Errs storage v.disk new.vault.disk)) room.vault it.halts;
     halted = subst (λ (v : Vault D). IsErrOf result (Store Halted) ↔ (v.halted ≡ true)) room.vault it.halted;
-    disk = subst (λ (v : Vault D). HasCauses failures refusals (Store Device) (Store NoMemory) v.disk new.vault.disk result) room.vault it.disk;
+    disk = subst (λ (v : Vault D). ReportsAs storage (Store Device) (Store NoMemory) v.disk new.vault.disk result) room.vault it.disk;
     same = on_err result (is_halted new ≡ is_halted mid → IsSame mid.vault new.vault × (new.in_doubt ≡ mid.in_doubt)) (is_halted new ≡ is_halted old → IsSame old.vault new.vault × (new.in_doubt ≡ old.in_doubt))
         (λ so is. let both = so (is ∙ sym halted) in (subst (λ (v : Vault D). IsSame v new.vault) room.vault both.0, both.1 ∙ room.in_doubt)) it.same;
     settled = it.settled;
@@ -150,16 +150,16 @@ module _ {D : Type 0} (old mid : Core D) (room : GivesRoom old mid) where
   }
 
 -- if nothing on the disk changes, a crash leaves what is held
-pub rests : {D : Type 0} (files : D → Side → File) (moment : D → ℕ) (left_at : D → ℕ → Contents → Type 0) (old new : Core D) (events : List Event) → HeldLeaves files moment left_at → GatesRest files moment left_at
-    → IsKept files old → is_halted old ≡ false → new.vault ≡ old.vault → CrashLeaves files moment left_at old new events
-rests files moment left_at old new events leaves gates kept working same =
+pub rests : {D : Type 0} (storage : Ghosts D) (old new : Core D) (events : List Event) → HeldLeaves storage → GatesRest storage
+    → IsKept storage.files old → is_halted old ≡ false → new.vault ≡ old.vault → CrashLeaves storage old new events
+rests storage old new events leaves gates kept working same =
     let holds = kept.holds working in
     record {
       facts =
-          subst (λ v. LeavesOnly moment left_at old.vault.disk v.disk (StandsBeforeOrAfter (graph old) (environment old) (facts old) events)) (sym same)
-          (weakened moment left_at old.vault.disk old.vault.disk (λ c. Stands c (graph old) (environment old) (facts old)) (StandsBeforeOrAfter (graph old) (environment old) (facts old) events)
+          subst (λ v. Leaves storage old.vault.disk v.disk (StandsBeforeOrAfter (graph old) (environment old) (facts old) events)) (sym same)
+          (weakened storage.moment storage.left_at old.vault.disk old.vault.disk (λ c. Stands c (graph old) (environment old) (facts old)) (StandsBeforeOrAfter (graph old) (environment old) (facts old) events)
           (leaves old.vault (graph old) (environment old) (facts old) holds) (λ c stands. inl stands));
-      gates = λ has. subst (λ v. LeavesOnly moment left_at old.vault.disk v.disk HasGates) (sym same) (gates old.vault (graph old) (environment old) (facts old) holds has);
+      gates = λ has. subst (λ v. Leaves storage old.vault.disk v.disk HasGates) (sym same) (gates old.vault (graph old) (environment old) (facts old) holds has);
     }
 
 -- an item of the environment that is refused is not legal
@@ -185,10 +185,10 @@ full_first old why event (Store Exists) never it working legal long = absurd it
 
 -- an error that is returned before anything is written
 pub refused_first :
-    {D T : Type 0} (files : D → Side → File) (moment : D → ℕ) (left_at : D → ℕ → Contents → Type 0) (honest : Type 0) (old new : Core D) (why : Refusal → Type 0) (event : Event) (error : CoreError) →
+    {D T : Type 0} (storage : Ghosts D) (old new : Core D) (why : Refusal → Type 0) (event : Event) (error : CoreError) →
     Refuses old why event error → (IsLegal (graph old) (facts old) event → (error ≡ Store NoMemory) ⊎ ⊥) → is_halted new ≡ is_halted old →
-    (honest → is_halted old ≡ false → CrashLeaves files moment left_at old new (event ∷ [])) → Commits {T = T} files moment left_at honest old new why event (Err error)
-refused_first files moment left_at honest old new why event error refuses legal same moments = record {
+    (IsTrue storage.is_honest → is_halted old ≡ false → CrashLeaves storage old new (event ∷ [])) → Commits {T = T} storage old new why event (Err error)
+refused_first storage old new why event error refuses legal same moments = record {
   takes = tt;
   refused = refuses;
   full = λ working may long. elim (legal may) [ inl is ↦ inr (ap Err is) | inr never ↦ absurd never ];
@@ -197,12 +197,12 @@ refused_first files moment left_at honest old new why event error refuses legal 
 }
 
 pub unhalted :
-    {D T : Type 0} (failures refusals : D → ℕ) (old new : Core D) (error : CoreError) → is_halted old ≡ false → new.vault ≡ old.vault → new.in_doubt ≡ old.in_doubt →
-    ((error ≡ Store Halted) → ⊥) → ((error ≡ Store Device) → ⊥) → Halts {T = T} failures refusals old new (Err error)
-unhalted {T = T} failures refusals old new error working vault doubt not_halted not_device = record {
+    {D T : Type 0} (storage : Ghosts D) (old new : Core D) (error : CoreError) → is_halted old ≡ false → new.vault ≡ old.vault → new.in_doubt ≡ old.in_doubt →
+    ((error ≡ Store Halted) → ⊥) → ((error ≡ Store Device) → ⊥) → Halts {T = T} storage old new (Err error)
+unhalted {T = T} storage old new error working vault doubt not_halted not_device = record {
   halts = (λ is. inl (sym (ap (λ v. v.halted) vault) ∙ is), λ either. elim either [ inl is ↦ ap (λ v. v.halted) vault ∙ is | inr erred ↦ absurd (never erred) ]);
   halted = (λ is. absurd (not_halted (inside is)), λ is. absurd (false≢true (sym working ∙ is)));
-  disk = subst (λ v. HasCauses {T = T} failures refusals (Store Device) (Store NoMemory) old.vault.disk v.disk (Err error)) (sym vault) (record {
+  disk = subst (λ v. ReportsAs {T = T} storage (Store Device) (Store NoMemory) old.vault.disk v.disk (Err error)) (sym vault) (record {
     device = (λ is. absurd (not_device (inside is)), λ grew. absurd (omega (arith, grew)));
     refused = λ changed. absurd (changed refl);
     later = omega arith;
@@ -218,9 +218,9 @@ unhalted {T = T} failures refusals old new error working vault doubt not_halted 
     never erred = elim (subst (λ v. HasErred failures refusals old.vault.disk v.disk) vault erred) [ inl grew ↦ absurd (omega (arith, grew)) | inr changed ↦ changed refl ]
 
 -- the same, returned with another value
-module _ {D T U : Type 0} (files : D → Side → File) (moment : D → ℕ) (left_at : D → ℕ → Contents → Type 0) (honest : Type 0) (old new : Core D) (event : Event) where
-  pub commits_ok : (given : T) (value : U) → Takes old new event → TellsFull {T = T} old event (Ok given) → (honest → CrashLeaves files moment left_at old new (event ∷ []))
-      → Commits {T = U} files moment left_at honest old new NoCause event (Ok value)
+module _ {D T U : Type 0} (storage : Ghosts D) (old new : Core D) (event : Event) where
+  pub commits_ok : (given : T) (value : U) → Takes old new event → TellsFull {T = T} old event (Ok given) → (IsTrue storage.is_honest → CrashLeaves storage old new (event ∷ []))
+      → Commits {T = U} storage old new NoCause event (Ok value)
   commits_ok given value takes full moments = record {
     takes = takes;
     refused = tt;
@@ -232,8 +232,8 @@ module _ {D T U : Type 0} (files : D → Side → File) (moment : D → ℕ) (le
       never : (cause : VaultError) → ◌≡◌ {A = Result T CoreError} (Ok given) (Err (Store cause)) → ⊥
       never cause is = cc
 
-  pub commits_err : (error : CoreError) → Refuses old NoCause event error → TellsFull {T = T} old event (Err error) → IsInDoubt {T = T} old new event (Err error) → (honest → CrashLeaves files moment left_at old new (event ∷ []))
-      → Commits {T = U} files moment left_at honest old new NoCause event (Err error)
+  pub commits_err : (error : CoreError) → Refuses old NoCause event error → TellsFull {T = T} old event (Err error) → IsInDoubt {T = T} old new event (Err error) → (IsTrue storage.is_honest → CrashLeaves storage old new (event ∷ []))
+      → Commits {T = U} storage old new NoCause event (Err error)
   commits_err error refused full doubt moments = record {
     takes = tt;
     refused = refused;
@@ -247,9 +247,9 @@ module _ {D T U : Type 0} (files : D → Side → File) (moment : D → ℕ) (le
 
 -- a commit that is refused for no cause keeps its promises for any causes
 pub with_cause :
-    {D T : Type 0} (files : D → Side → File) (moment : D → ℕ) (left_at : D → ℕ → Contents → Type 0) (honest : Type 0) (old new : Core D) (why : Refusal → Type 0) (event : Event) (result : Result T CoreError) →
-    Commits files moment left_at honest old new NoCause event result → Commits files moment left_at honest old new why event result
-with_cause files moment left_at honest old new why event result it = record {
+    {D T : Type 0} (storage : Ghosts D) (old new : Core D) (why : Refusal → Type 0) (event : Event) (result : Result T CoreError) →
+    Commits storage old new NoCause event result → Commits storage old new why event result
+with_cause storage old new why event result it = record {
   takes = it.takes;
   refused = if_err result (Refuses old NoCause event) (Refuses old why event) other it.refused;
   full = it.full;
@@ -269,9 +269,9 @@ with_cause files moment left_at honest old new why event result it = record {
 
 -- a halted core refuses everything
 pub refused_halted :
-    {D T : Type 0} (files : D → Side → File) (moment : D → ℕ) (left_at : D → ℕ → Contents → Type 0) (honest : Type 0) (old new : Core D) (why : Refusal → Type 0) (event : Event) →
-    is_halted old ≡ true → Commits {T = T} files moment left_at honest old new why event (Err (Store Halted))
-refused_halted files moment left_at honest old new why event halted = record {
+    {D T : Type 0} (storage : Ghosts D) (old new : Core D) (why : Refusal → Type 0) (event : Event) →
+    is_halted old ≡ true → Commits {T = T} storage old new why event (Err (Store Halted))
+refused_halted storage old new why event halted = record {
   takes = tt;
   refused = halted;
   full = λ working legal long. absurd (false≢true (sym working ∙ halted));

@@ -1,12 +1,10 @@
 -- What each call of a run makes of a core: the end of an instance, and all that changes nothing on the disk.
+use Rattle.disk.specs.Storage.{Errs, Leaves}
 use Rattle.disk.specs.declared.storage.Disk.{Ghosts}
 use Rattle.std.proofs.Common.{◌≡◌, ◌∙◌, ◌⊎◌, ◌<◌, ◌≤◌, ◌+◌, ◌++◌, ap, refl, sym, subst, inl, inr, ℕ, Bool, true, false, List, [], ◌∷◌, length, Result, Ok, Err, IfOk, OnErr, arith, IsTrue}
 use Rattle.std.proofs.lemmas.Bool.{false≢true}
 use Rattle.std.proofs.lemmas.List.{append-nil}
 use Rattle.std.specs.List.{AllByRecursion}
-use Rattle.disk.specs.declared.side.Side.{Side}
-use Rattle.disk.specs.File.{File}
-use Rattle.disk.specs.Time.{Contents, LeavesOnly, HasErred}
 use Rattle.terms.specs.declared.name.Addr.{Addr}
 use Rattle.terms.specs.declared.name.Inst.{Inst}
 use Rattle.terms.specs.declared.fault.FaultKind.{FaultKind}
@@ -59,12 +57,12 @@ costs_one (event.Done instance puts) is = refl
 costs_one (event.Stopped instance kind) is = refl
 
 module _
-    {D : Type 0} (files : D → Side → File) (moment : D → ℕ) (left_at : D → ℕ → Contents → Type 0) (honest : Type 0) (old new : Core D)
+    {D : Type 0} (storage : Ghosts D) (old new : Core D)
     (instance : Inst) (outcome : Outcome) (result : Result Committed CoreError)
   where
     -- an end by the puts that a body gave is one of its outcome, and so is an end by its fault
     pub of_given : (given : Given) (puts : List Put) → outcome ≡ Gave given → puts ≡ given.puts
-        → EndsGiven files moment left_at honest old new instance puts result → Finishes files moment left_at honest old new instance outcome result
+        → EndsGiven storage old new instance puts result → Finishes storage old new instance outcome result
     of_given given puts is puts_are it = record {
       end = it.end;
       is_end = subst (λ (o : Outcome). IsEndOf o instance it.end) (sym is) (subst (λ (list : List Put). IsEndOfGiven instance list it.end) puts_are it.is_end);
@@ -72,8 +70,8 @@ module _
       told = it.told;
     }
 
-    pub of_fault : (bad : Bad) (kind : FaultKind) → outcome ≡ Fault bad → kind ≡ bad.kind → Commits files moment left_at honest old new (RefusesEnd (facts old)) (event.Stopped instance kind) result
-        → IfOk result (λ told. told ≡ committed.Stopped kind) → Finishes files moment left_at honest old new instance outcome result
+    pub of_fault : (bad : Bad) (kind : FaultKind) → outcome ≡ Fault bad → kind ≡ bad.kind → Commits storage old new (RefusesEnd (facts old)) (event.Stopped instance kind) result
+        → IfOk result (λ told. told ≡ committed.Stopped kind) → Finishes storage old new instance outcome result
     of_fault bad kind is kind_is commits told = record {
       end = event.Stopped instance kind;
       is_end = subst (λ (o : Outcome). IsEndOf o instance (event.Stopped instance kind)) (sym is) (ap (λ (k : FaultKind). event.Stopped instance k) kind_is);
@@ -139,16 +137,16 @@ handed_back old new instance back vault doubt working settled = record {
 module _ {D : Type 0} (storage : Ghosts D) where
   -- ---- nothing changes on the disk
 
-  pub rests : (IsTrue storage.is_honest → RestLeaves storage.files storage.moment storage.left_at) → (IsTrue storage.is_honest → GatesRest storage.files storage.moment storage.left_at) → (old new : Core D) → is_halted old ≡ false → (IsTrue storage.is_honest → IsKept storage.files old) → SameStore old new
+  pub rests : (IsTrue storage.is_honest → RestLeaves storage) → (IsTrue storage.is_honest → GatesRest storage) → (old new : Core D) → is_halted old ≡ false → (IsTrue storage.is_honest → IsKept storage.files old) → SameStore old new
       → Runs storage old new []
   rests leaves gates_rest old new working kept same =
       let none : [] ++ new.in_doubt ≡ [] = same.settled in
-      let crash : IsTrue storage.is_honest → LeavesOnly storage.moment storage.left_at old.vault.disk new.vault.disk (StandsForBeginning (graph old) (environment old) (facts old) [] ([] ++ in_one new.in_doubt)) = λ on.
+      let crash : IsTrue storage.is_honest → Leaves storage old.vault.disk new.vault.disk (StandsForBeginning (graph old) (environment old) (facts old) [] ([] ++ in_one new.in_doubt)) = λ on.
       let holds = (kept on).holds working in
       let of_store = subst (λ (E : Facts). Holds storage.files old.vault (graph old) E (with_facts (facts old) [])) (sym (with_nothing (environment old))) (subst (λ (X : Facts). Holds storage.files old.vault (graph old) (environment old) X) (sym (with_nothing (facts old))) holds) in
       let here = leaves on old.vault (graph old) (environment old) (facts old) [] of_store in
-      subst (λ (d : D). LeavesOnly storage.moment storage.left_at old.vault.disk d (StandsForBeginning (graph old) (environment old) (facts old) [] ([] ++ in_one new.in_doubt))) (sym same.disk)
-      (subst (λ (events : List Event). LeavesOnly storage.moment storage.left_at old.vault.disk old.vault.disk (StandsForBeginning (graph old) (environment old) (facts old) [] (in_one events))) (sym none) here)
+      subst (λ (d : D). Leaves storage old.vault.disk d (StandsForBeginning (graph old) (environment old) (facts old) [] ([] ++ in_one new.in_doubt))) (sym same.disk)
+      (subst (λ (events : List Event). Leaves storage old.vault.disk old.vault.disk (StandsForBeginning (graph old) (environment old) (facts old) [] (in_one events))) (sym none) here)
       in
       record {
         are_ends = subst (λ (events : List Event). AllByRecursion IsEnd events) (sym none) tt;
@@ -162,18 +160,18 @@ module _ {D : Type 0} (storage : Ghosts D) where
         end = λ _. with_none new.vault.journal.end old.vault.journal.end same.end;
         crashes = crash;
         acknowledged = λ on t contents after before was. (crash on).each t contents after before was;
-        gates = λ on has. subst (λ (d : D). LeavesOnly storage.moment storage.left_at old.vault.disk d HasGates) (sym same.disk) (gates_rest on old.vault (graph old) (environment old) (facts old) ((kept on).holds working) has);
-        halts = (λ is. absurd (false≢true (sym same.halted ∙ is)), λ erred. absurd (calm (subst (λ (d : D). HasErred storage.failures storage.refusals old.vault.disk d) same.disk erred)));
+        gates = λ on has. subst (λ (d : D). Leaves storage old.vault.disk d HasGates) (sym same.disk) (gates_rest on old.vault (graph old) (environment old) (facts old) ((kept on).holds working) has);
+        halts = (λ is. absurd (false≢true (sym same.halted ∙ is)), λ erred. absurd (calm (subst (λ (d : D). Errs storage old.vault.disk d) same.disk erred)));
         later = omega (arith, ap storage.failures same.disk);
         some_in_doubt = λ is. absurd (false≢true (sym same.halted ∙ is));
       }
     where
-      calm : HasErred storage.failures storage.refusals old.vault.disk old.vault.disk → ⊥
+      calm : Errs storage old.vault.disk old.vault.disk → ⊥
       calm (inl grew) = omega (arith, grew)
       calm (inr changed) = changed refl
 
   -- no call of the disk was made
-  pub as_it_was : (IsTrue storage.is_honest → RestLeaves storage.files storage.moment storage.left_at) → (IsTrue storage.is_honest → GatesRest storage.files storage.moment storage.left_at) → (core : Core D) → is_halted core ≡ false → core.in_doubt ≡ [] → (IsTrue storage.is_honest → IsKept storage.files core) → RunsOn storage core core
+  pub as_it_was : (IsTrue storage.is_honest → RestLeaves storage) → (IsTrue storage.is_honest → GatesRest storage) → (core : Core D) → is_halted core ≡ false → core.in_doubt ≡ [] → (IsTrue storage.is_honest → IsKept storage.files core) → RunsOn storage core core
   as_it_was leaves gates_rest core working settled kept = record {
     commits = [];
     runs = rests leaves gates_rest core core working kept (record { graph = refl; facts = λ _. refl; environment = λ _. refl; allowance = refl; latest = refl; disk = refl; generation = refl; end = refl; halted = working; settled = settled });
@@ -181,16 +179,16 @@ module _ {D : Type 0} (storage : Ghosts D) where
 
   -- ---- an end
 
-  -- at each storage.moment of a commit of one event a crash leaves a prefix of this one commit
-  pub begins : (IsTrue storage.is_honest → AppendLeaves storage.files storage.moment storage.left_at) → (old new : Core D) (end : Event) → IsTrue storage.is_honest → CrashLeaves storage.files storage.moment storage.left_at old new (end ∷ [])
-      → LeavesOnly storage.moment storage.left_at old.vault.disk new.vault.disk (StandsForBeginning (graph old) (environment old) (facts old) [] ((end ∷ []) ∷ []))
+  -- at each moment of a commit of one event a crash leaves a prefix of this one commit
+  pub begins : (IsTrue storage.is_honest → AppendLeaves storage) → (old new : Core D) (end : Event) → IsTrue storage.is_honest → CrashLeaves storage old new (end ∷ [])
+      → Leaves storage old.vault.disk new.vault.disk (StandsForBeginning (graph old) (environment old) (facts old) [] ((end ∷ []) ∷ []))
   begins leaves old new end on it =
       leaves on old.vault new.vault (graph old) (environment old) (facts old) [] (end ∷ [])
-      (subst (λ (E : Facts). LeavesOnly storage.moment storage.left_at old.vault.disk new.vault.disk (StandsBeforeOrAfter (graph old) E (with_facts (facts old) []) (end ∷ []))) (sym (with_nothing (environment old)))
-      (subst (λ (X : Facts). LeavesOnly storage.moment storage.left_at old.vault.disk new.vault.disk (StandsBeforeOrAfter (graph old) (environment old) X (end ∷ []))) (sym (with_nothing (facts old))) it.facts))
+      (subst (λ (E : Facts). Leaves storage old.vault.disk new.vault.disk (StandsBeforeOrAfter (graph old) E (with_facts (facts old) []) (end ∷ []))) (sym (with_nothing (environment old)))
+      (subst (λ (X : Facts). Leaves storage old.vault.disk new.vault.disk (StandsBeforeOrAfter (graph old) (environment old) X (end ∷ []))) (sym (with_nothing (facts old))) it.facts))
 
-  -- from the last storage.moment of its call on the end is acknowledged
-  acknowledged_at : (IsTrue storage.is_honest → HeldLeaves storage.files storage.moment storage.left_at) → (old new : Core D) (end : Event) → Takes old new end → (IsTrue storage.is_honest → IsKept storage.files new) → (doubt : List Event) → (IsTrue storage.is_honest)
+  -- from the last moment of its call on the end is acknowledged
+  acknowledged_at : (IsTrue storage.is_honest → HeldLeaves storage) → (old new : Core D) (end : Event) → Takes old new end → (IsTrue storage.is_honest → IsKept storage.files new) → (doubt : List Event) → (IsTrue storage.is_honest)
       → AcknowledgesFrom (graph old) (environment old) (facts old) (storage.left_at new.vault.disk) (storage.moment new.vault.disk) (storage.moment new.vault.disk) ((end ∷ []) ∷ []) [] (in_one doubt)
   acknowledged_at held old new end takes kept doubt on t contents after before was =
       let stands = (held on new.vault (graph new) (environment new) (facts new) ((kept on).holds takes.working.1)).each t contents after before was in
@@ -208,14 +206,14 @@ module _ {D : Type 0} (storage : Ghosts D) where
       }
 
   -- one event that was taken
-  pub acknowledged_once : (IsTrue storage.is_honest → AppendLeaves storage.files storage.moment storage.left_at) → (IsTrue storage.is_honest → HeldLeaves storage.files storage.moment storage.left_at) → (old new : Core D) (end : Event) → Takes old new end → (IsTrue storage.is_honest → CrashLeaves storage.files storage.moment storage.left_at old new (end ∷ []))
+  pub acknowledged_once : (IsTrue storage.is_honest → AppendLeaves storage) → (IsTrue storage.is_honest → HeldLeaves storage) → (old new : Core D) (end : Event) → Takes old new end → (IsTrue storage.is_honest → CrashLeaves storage old new (end ∷ []))
       → (IsTrue storage.is_honest → IsKept storage.files new) → IsTrue storage.is_honest → AcknowledgesFrom (graph old) (environment old) (facts old) (storage.left_at new.vault.disk) (storage.moment new.vault.disk) (storage.moment old.vault.disk) [] ((end ∷ []) ∷ []) (in_one new.in_doubt)
   acknowledged_once leaves held old new end takes moments kept on =
       let crash = begins leaves old new end on (moments on) in
       (storage.moment new.vault.disk, crash.later, omega arith, λ t contents after before was. crash.each t contents after before was, acknowledged_at held old new end takes kept new.in_doubt on)
 
-  pub ended : {T : Type 0} → (IsTrue storage.is_honest → AppendLeaves storage.files storage.moment storage.left_at) → (IsTrue storage.is_honest → HeldLeaves storage.files storage.moment storage.left_at) → (old new : Core D) (end : Event) (result : Result T CoreError) → is_halted old ≡ false → IsEnd end
-      → Takes old new end → new.in_doubt ≡ [] → (IsTrue storage.is_honest → CrashLeaves storage.files storage.moment storage.left_at old new (end ∷ [])) → (IsTrue storage.is_honest → IsKept storage.files new) → Halts storage.failures storage.refusals old new result
+  pub ended : {T : Type 0} → (IsTrue storage.is_honest → AppendLeaves storage) → (IsTrue storage.is_honest → HeldLeaves storage) → (old new : Core D) (end : Event) (result : Result T CoreError) → is_halted old ≡ false → IsEnd end
+      → Takes old new end → new.in_doubt ≡ [] → (IsTrue storage.is_honest → CrashLeaves storage old new (end ∷ [])) → (IsTrue storage.is_honest → IsKept storage.files new) → Halts storage old new result
       → Runs storage old new ((end ∷ []) ∷ [])
   ended leaves held old new end result working is takes settled moments kept halts =
       let one : end ∷ [] ++ new.in_doubt ≡ end ∷ [] = ap (λ (events : List Event). end ∷ events) settled in
@@ -230,7 +228,7 @@ module _ {D : Type 0} (storage : Ghosts D) where
         generation = λ _. takes.generation;
         end = λ _. with_record new.vault.journal.end old.vault.journal.end (record_length end) takes.moved;
         crashes = λ on.
-            subst (λ (events : List Event). LeavesOnly storage.moment storage.left_at old.vault.disk new.vault.disk (StandsForBeginning (graph old) (environment old) (facts old) [] ((end ∷ []) ∷ in_one events))) (sym settled)
+            subst (λ (events : List Event). Leaves storage old.vault.disk new.vault.disk (StandsForBeginning (graph old) (environment old) (facts old) [] ((end ∷ []) ∷ in_one events))) (sym settled)
             (begins leaves old new end on (moments on));
         acknowledged = acknowledged_once leaves held old new end takes moments kept;
         gates = λ on has. (moments on).gates has;
@@ -242,8 +240,8 @@ module _ {D : Type 0} (storage : Ghosts D) where
   -- ---- an end that is refused
 
   -- an error of the disk comes only where the end was legal
-  pub legal_in_doubt : {T : Type 0} (old new : Core D) (causes : Refusal → Type 0) (end : Event) (error : CoreError) → Refuses old causes end error → Halts {T = T} storage.failures storage.refusals old new (Err error)
-      → HasErred storage.failures storage.refusals old.vault.disk new.vault.disk → IsLegal (graph old) (facts old) end
+  pub legal_in_doubt : {T : Type 0} (old new : Core D) (causes : Refusal → Type 0) (end : Event) (error : CoreError) → Refuses old causes end error → Halts {T = T} storage old new (Err error)
+      → Errs storage old.vault.disk new.vault.disk → IsLegal (graph old) (facts old) end
   legal_in_doubt {T} old new causes end error why halts (inl grew) = device error why (inside (halts.disk.device.1 grew))
     where
       inside : {cause : CoreError} → ◌≡◌ {A = Result T CoreError} (Err error) (Err cause) → error ≡ cause
@@ -259,9 +257,9 @@ module _ {D : Type 0} (storage : Ghosts D) where
       memory : (e : CoreError) → Refuses old causes end e → e ≡ Store NoMemory → IsLegal (graph old) (facts old) end
       memory e refuses is = (subst (λ (x : CoreError). Refuses old causes end x) is refuses).1
 
-  pub refused : {T : Type 0} → (IsTrue storage.is_honest → AppendLeaves storage.files storage.moment storage.left_at) → (IsTrue storage.is_honest → RestLeaves storage.files storage.moment storage.left_at) → (IsTrue storage.is_honest → GatesRest storage.files storage.moment storage.left_at) → (old new : Core D) (instance : Inst) (end : Event) (error : CoreError)
-      → is_halted old ≡ false → old.in_doubt ≡ [] → 0 < old.allowance → (IsTrue storage.is_honest → IsKept storage.files old) → IsEnd end → GivesBack old new instance → Commits {T = T} storage.files storage.moment storage.left_at (IsTrue storage.is_honest) old new (RefusesEnd (facts old)) end (Err error)
-      → Halts {T = T} storage.failures storage.refusals old new (Err error) → Runs storage old new []
+  pub refused : {T : Type 0} → (IsTrue storage.is_honest → AppendLeaves storage) → (IsTrue storage.is_honest → RestLeaves storage) → (IsTrue storage.is_honest → GatesRest storage) → (old new : Core D) (instance : Inst) (end : Event) (error : CoreError)
+      → is_halted old ≡ false → old.in_doubt ≡ [] → 0 < old.allowance → (IsTrue storage.is_honest → IsKept storage.files old) → IsEnd end → GivesBack old new instance → Commits {T = T} storage old new (RefusesEnd (facts old)) end (Err error)
+      → Halts {T = T} storage old new (Err error) → Runs storage old new []
   refused {T} leaves rest_leaves gates_rest old new instance end error working settled allowed kept is back commits halts = at (is_halted new) refl
     where
       at : (b : Bool) → is_halted new ≡ b → Runs storage old new []
@@ -281,7 +279,7 @@ module _ {D : Type 0} (storage : Ghosts D) where
           })
       at true stops =
           let doubt : new.in_doubt ≡ end ∷ [] = commits.doubt working stops in
-          let erred : HasErred storage.failures storage.refusals old.vault.disk new.vault.disk = elim (halts.halts.0 stops) [ inl before ↦ absurd (false≢true (sym working ∙ before)) | inr it ↦ it ] in
+          let erred : Errs storage old.vault.disk new.vault.disk = elim (halts.halts.0 stops) [ inl before ↦ absurd (false≢true (sym working ∙ before)) | inr it ↦ it ] in
           let legal = legal_in_doubt old new (RefusesEnd (facts old)) end error commits.refused halts erred in
           record {
             are_ends = subst (λ (events : List Event). AllByRecursion IsEnd events) (sym doubt) (is, tt);
@@ -294,7 +292,7 @@ module _ {D : Type 0} (storage : Ghosts D) where
             generation = λ goes. absurd (false≢true (sym goes ∙ stops));
             end = λ goes. absurd (false≢true (sym goes ∙ stops));
             crashes = λ on.
-                subst (λ (events : List Event). LeavesOnly storage.moment storage.left_at old.vault.disk new.vault.disk (StandsForBeginning (graph old) (environment old) (facts old) [] (in_one events))) (sym doubt)
+                subst (λ (events : List Event). Leaves storage old.vault.disk new.vault.disk (StandsForBeginning (graph old) (environment old) (facts old) [] (in_one events))) (sym doubt)
                 (begins leaves old new end on (commits.moments on working));
             acknowledged = λ on t contents after before was.
                 subst (λ (events : List Event). StandsForBeginning (graph old) (environment old) (facts old) [] (in_one events) contents) (sym doubt) ((begins leaves old new end on (commits.moments on working)).each t contents after before was);
@@ -305,11 +303,11 @@ module _ {D : Type 0} (storage : Ghosts D) where
           }
 
   -- a finish is a run by itself
-  pub finished : (IsTrue storage.is_honest → AppendLeaves storage.files storage.moment storage.left_at) → (IsTrue storage.is_honest → HeldLeaves storage.files storage.moment storage.left_at) → (IsTrue storage.is_honest → RestLeaves storage.files storage.moment storage.left_at) → (IsTrue storage.is_honest → GatesRest storage.files storage.moment storage.left_at)
+  pub finished : (IsTrue storage.is_honest → AppendLeaves storage) → (IsTrue storage.is_honest → HeldLeaves storage) → (IsTrue storage.is_honest → RestLeaves storage) → (IsTrue storage.is_honest → GatesRest storage)
       → (old new : Core D) (instance : Inst) (outcome : Outcome) (result : Result Committed CoreError)
       → is_halted old ≡ false → old.in_doubt ≡ [] → 0 < old.allowance → (IsTrue storage.is_honest → IsKept storage.files old)
-      → Finishes storage.files storage.moment storage.left_at (IsTrue storage.is_honest) old new instance outcome result → OnErr result (GivesBack old new instance)
-      → Halts storage.failures storage.refusals old new result → (IsTrue storage.is_honest → IsKept storage.files new) → EndRuns storage old new instance outcome result
+      → Finishes storage old new instance outcome result → OnErr result (GivesBack old new instance)
+      → Halts storage old new result → (IsTrue storage.is_honest → IsKept storage.files new) → EndRuns storage old new instance outcome result
   finished leaves held rest_leaves gates_rest old new instance outcome (Ok committed) working settled allowed kept it back halts kept_after = (
     it.end,
     it.is_end,
@@ -321,7 +319,7 @@ module _ {D : Type 0} (storage : Ghosts D) where
 
   -- why it ends the run
   pub ends_early : {T : Type 0} (old new : Core D) (instance : Inst) (end : Event) (error : CoreError) → is_halted old ≡ false → 0 < old.allowance → HasNoFault (facts old) → IsEnd end → GivesBack old new instance
-      → Refuses old (RefusesEnd (facts old)) end error → Halts {T = T} storage.failures storage.refusals old new (Err error) → EndsEarly new error
+      → Refuses old (RefusesEnd (facts old)) end error → Halts {T = T} storage old new (Err error) → EndsEarly new error
   ends_early {T} old new instance end error working allowed none is back why halts goes = at error why refl
     where
       same : IsSame old.vault new.vault × (new.in_doubt ≡ old.in_doubt)

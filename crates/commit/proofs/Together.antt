@@ -1,12 +1,10 @@
 -- Several ends that are committed as one: after room was made, and as a run by itself.
+use Rattle.disk.specs.Storage.{Leaves}
 use Rattle.disk.specs.declared.storage.Disk.{Ghosts}
 use Rattle.std.proofs.Common.{◌≡◌, ◌∙◌, ◌<◌, ◌≤◌, ◌+◌, ◌++◌, ◌||◌, ap, sym, refl, subst, inl, inr, ℕ, Bool, true, false, List, [], ◌∷◌, length, Result, Ok, Err, IfOk, IfErr, OnOk, OnErr, Some, arith, IsTrue}
 use Rattle.std.proofs.lemmas.Bool.{false≢true}
 use Rattle.std.proofs.lemmas.List.{append-nil}
 use Rattle.std.specs.List.{AllByRecursion}
-use Rattle.disk.specs.declared.side.Side.{Side}
-use Rattle.disk.specs.File.{File}
-use Rattle.disk.specs.Time.{Contents, LeavesOnly}
 use Rattle.terms.specs.declared.name.Inst.{Inst}
 use Rattle.terms.specs.declared.event.Event.{Event}
 use Rattle.terms.specs.declared.event.Event.TheVariants as event
@@ -160,41 +158,41 @@ module _ {D : Type 0} (old mid : Core D) (room : GivesRoom old mid) where
     machine = gives_all_back new.machine tasks it.machine;
   }
 
-  module _ (files : D → Side → File) (moment : D → ℕ) (left_at : D → ℕ → Contents → Type 0) (honest : Type 0) (new : Core D) (tasks : List Inst) (ends : List Event) where
+  module _ (storage : Ghosts D) (new : Core D) (tasks : List Inst) (ends : List Event) where
     -- the ends were looked at, and what comes of them was tried
     abbrev pub finishes : (ended : Ended) (commit : Commit) (result : Result Ended CoreError) → EndsTogether (graph old) (facts old) ends ended → commit ≡ cut ended ends → 1 ≤ length commit
-        → OnOk result (TakesAll mid new tasks commit) → IfOk result (λ answer. answer ≡ ended) → IfErr result (RefusesAll mid commit) → TellsFullAll mid commit result
-        → AreInDoubt mid new commit result → (honest → CrashLeaves files moment left_at mid new commit) → FinishesAll files moment left_at honest old new tasks ends result
-    finishes ended commit (Ok answer) together is some ok told refused full doubt moments = record {
+        → IfOk result (λ answer. (answer ≡ ended) × TakesAll mid new tasks commit) → IfErr result (RefusesAll mid commit) → TellsFullAll mid commit result
+        → AreInDoubt mid new commit result → (IsTrue storage.is_honest → CrashLeaves storage mid new commit) → FinishesAll storage old new tasks ends result
+    finishes ended commit (Ok answer) together is some ok refused full doubt moments = record {
       commit = commit;
       tried = inr (ended, together, is);
-      answered = subst (λ (a : Ended). EndsAsAnswered old new tasks ends commit a) (sym told) (record { together = together; commit_is = is; takes = takes_all new tasks commit some ok });
+      answered = subst (λ (a : Ended). EndsAsAnswered old new tasks ends commit a) (sym ok.0) (record { together = together; commit_is = is; takes = takes_all new tasks commit some ok.1 });
       refused = tt;
       full = λ more long. full more (too_long_then commit long);
       doubt = (tt, tt);
-      moments = λ on working. moments_before old mid room files moment left_at new commit (moments on);
+      moments = λ on working. moments_before old mid room storage new commit (moments on);
     }
-    finishes ended commit (Err error) together is some ok told refused full doubt moments = record {
+    finishes ended commit (Err error) together is some ok refused full doubt moments = record {
       commit = commit;
       tried = inr (ended, together, is);
       answered = tt;
       refused = refuses commit error refused;
       full = λ more long. full more (too_long_then commit long);
       doubt = (λ working stops. doubt (halted ∙ working) stops, λ working stops. some);
-      moments = λ on working. moments_before old mid room files moment left_at new commit (moments on);
+      moments = λ on working. moments_before old mid room storage new commit (moments on);
     }
 
     -- what was tried is within the allowance, if there are no more instances than that
     pub tried_within : (ended : Ended) (commit : Commit) (result : Result Ended CoreError) (together : EndsTogether (graph old) (facts old) ends ended) (is : commit ≡ cut ended ends) (some : 1 ≤ length commit)
-        (ok : OnOk result (TakesAll mid new tasks commit)) (told : IfOk result (λ answer. answer ≡ ended)) (why : IfErr result (RefusesAll mid commit)) (full : TellsFullAll mid commit result)
-        (doubt : AreInDoubt mid new commit result) (moments : honest → CrashLeaves files moment left_at mid new commit) → length commit ≤ length ends → length ends ≡ length tasks → OnErr result (length tasks ≤ mid.allowance)
-        → OnErr result (length (finishes ended commit result together is some ok told why full doubt moments).commit ≤ old.allowance)
-    tried_within ended commit (Ok answer) together is some ok told why full doubt moments few counted within = tt
-    tried_within ended commit (Err error) together is some ok told why full doubt moments few counted within = omega (arith, few, counted, within, room.allowance)
+        (ok : IfOk result (λ answer. (answer ≡ ended) × TakesAll mid new tasks commit)) (why : IfErr result (RefusesAll mid commit)) (full : TellsFullAll mid commit result)
+        (doubt : AreInDoubt mid new commit result) (moments : IsTrue storage.is_honest → CrashLeaves storage mid new commit) → length commit ≤ length ends → length ends ≡ length tasks → OnErr result (length tasks ≤ mid.allowance)
+        → OnErr result (length (finishes ended commit result together is some ok why full doubt moments).commit ≤ old.allowance)
+    tried_within ended commit (Ok answer) together is some ok why full doubt moments few counted within = tt
+    tried_within ended commit (Err error) together is some ok why full doubt moments few counted within = omega (arith, few, counted, within, room.allowance)
 
     -- an error came before that
-    abbrev pub refused_first : (error : CoreError) → RefusesAllFirst old error → new.vault ≡ mid.vault → (honest → HeldLeaves files moment left_at) → (honest → GatesRest files moment left_at) → (honest → IsKept files old)
-        → FinishesAll files moment left_at honest old new tasks ends (Err error)
+    abbrev pub refused_first : (error : CoreError) → RefusesAllFirst old error → new.vault ≡ mid.vault → (IsTrue storage.is_honest → HeldLeaves storage) → (IsTrue storage.is_honest → GatesRest storage) → (IsTrue storage.is_honest → IsKept storage.files old)
+        → FinishesAll storage old new tasks ends (Err error)
     refused_first error it vault held gates kept = record {
       commit = [];
       tried = inl refl;
@@ -202,7 +200,7 @@ module _ {D : Type 0} (old mid : Core D) (room : GivesRoom old mid) where
       refused = why error it;
       full = λ more. absurd (omega (arith, more));
       doubt = (λ working stops. absurd (false≢true (sym working ∙ sym halted ∙ ap (λ (v : Vault D). v.halted) (sym vault) ∙ stops)), λ working stops. absurd (false≢true (sym working ∙ sym halted ∙ ap (λ (v : Vault D). v.halted) (sym vault) ∙ stops)));
-      moments = λ on working. rests_before files moment left_at old new [] (held on) (gates on) (kept on) working (vault ∙ room.vault);
+      moments = λ on working. rests_before storage old new [] (held on) (gates on) (kept on) working (vault ∙ room.vault);
     }
       where
         why : (e : CoreError) → RefusesAllFirst old e → RefusesAll old [] e
@@ -227,26 +225,26 @@ memory_device : Store NoMemory ≡ Store Device → ⊥
 memory_device is = cc
 
 -- an error that comes before anything is tried does not halt the core
-pub halts_first : {D : Type 0} (failures refusals : D → ℕ) (old new : Core D) (error : CoreError) → RefusesAllFirst old error → new.vault ≡ old.vault → new.in_doubt ≡ old.in_doubt → Halts {T = Ended} failures refusals old new (Err error)
-halts_first failures refusals old new (Refused refusal) it vault doubt = unhalted {T = Ended} failures refusals old new (Refused refusal) it.0 vault doubt (refusal_apart refusal Halted) (refusal_apart refusal Device)
-halts_first failures refusals old new (Store Halted) it vault doubt = halted_still {T = Ended} failures refusals old new it vault doubt
-halts_first failures refusals old new (Store NoMemory) it vault doubt = unhalted {T = Ended} failures refusals old new (Store NoMemory) it.0 vault doubt memory_halts memory_device
-halts_first failures refusals old new (Store Full) it vault doubt = absurd it
-halts_first failures refusals old new (Store Device) it vault doubt = absurd it
-halts_first failures refusals old new (Store (Damaged side place)) it vault doubt = absurd it
-halts_first failures refusals old new (Store NotAStore) it vault doubt = absurd it
-halts_first failures refusals old new (Store Exists) it vault doubt = absurd it
+pub halts_first : {D : Type 0} (storage : Ghosts D) (old new : Core D) (error : CoreError) → RefusesAllFirst old error → new.vault ≡ old.vault → new.in_doubt ≡ old.in_doubt → Halts {T = Ended} storage old new (Err error)
+halts_first storage old new (Refused refusal) it vault doubt = unhalted {T = Ended} storage old new (Refused refusal) it.0 vault doubt (refusal_apart refusal Halted) (refusal_apart refusal Device)
+halts_first storage old new (Store Halted) it vault doubt = halted_still {T = Ended} storage old new it vault doubt
+halts_first storage old new (Store NoMemory) it vault doubt = unhalted {T = Ended} storage old new (Store NoMemory) it.0 vault doubt memory_halts memory_device
+halts_first storage old new (Store Full) it vault doubt = absurd it
+halts_first storage old new (Store Device) it vault doubt = absurd it
+halts_first storage old new (Store (Damaged side place)) it vault doubt = absurd it
+halts_first storage old new (Store NotAStore) it vault doubt = absurd it
+halts_first storage old new (Store Exists) it vault doubt = absurd it
 
 -- ---- a run by itself
 
 module _ {D : Type 0} (storage : Ghosts D) where
-  -- at each storage.moment of one commit a crash leaves it, or nothing of it
-  pub begins : (IsTrue storage.is_honest → AppendLeaves storage.files storage.moment storage.left_at) → (old new : Core D) (commit : Commit) → IsTrue storage.is_honest → CrashLeaves storage.files storage.moment storage.left_at old new commit
-      → LeavesOnly storage.moment storage.left_at old.vault.disk new.vault.disk (StandsForBeginning (graph old) (environment old) (facts old) [] (commit ∷ []))
+  -- at each moment of one commit a crash leaves it, or nothing of it
+  pub begins : (IsTrue storage.is_honest → AppendLeaves storage) → (old new : Core D) (commit : Commit) → IsTrue storage.is_honest → CrashLeaves storage old new commit
+      → Leaves storage old.vault.disk new.vault.disk (StandsForBeginning (graph old) (environment old) (facts old) [] (commit ∷ []))
   begins leaves old new commit on it =
       leaves on old.vault new.vault (graph old) (environment old) (facts old) [] commit
-      (subst (λ (E : Facts). LeavesOnly storage.moment storage.left_at old.vault.disk new.vault.disk (StandsBeforeOrAfter (graph old) E (with_facts (facts old) []) commit)) (sym (with_nothing (environment old)))
-      (subst (λ (X : Facts). LeavesOnly storage.moment storage.left_at old.vault.disk new.vault.disk (StandsBeforeOrAfter (graph old) (environment old) X commit)) (sym (with_nothing (facts old))) it.facts))
+      (subst (λ (E : Facts). Leaves storage old.vault.disk new.vault.disk (StandsBeforeOrAfter (graph old) E (with_facts (facts old) []) commit)) (sym (with_nothing (environment old)))
+      (subst (λ (X : Facts). Leaves storage old.vault.disk new.vault.disk (StandsBeforeOrAfter (graph old) (environment old) X commit)) (sym (with_nothing (facts old))) it.facts))
 
   -- the facts after a commit that was taken
   module _ (law : TakenInTurn) (old new : Core D) (tasks : List Inst) (commit : Commit) (takes : TakesAll old new tasks commit) where
@@ -270,8 +268,8 @@ module _ {D : Type 0} (storage : Ghosts D) where
   given_behind E commit = ap (λ (events : List Event). with_facts E (stated.environment events)) (append-nil commit)
 
   -- once it was made, it is acknowledged
-  pub acknowledged_all : (IsTrue storage.is_honest → HeldLeaves storage.files storage.moment storage.left_at) → (old new : Core D) (commit : Commit) → is_halted new ≡ false → graph new ≡ graph old → facts new ≡ with_facts (facts old) (stated.facts commit)
-      → environment new ≡ with_facts (environment old) (stated.environment commit) → (IsTrue storage.is_honest → IsKept storage.files new) → (IsTrue storage.is_honest → LeavesOnly storage.moment storage.left_at old.vault.disk new.vault.disk (StandsForBeginning (graph old) (environment old) (facts old) [] (commit ∷ [])))
+  pub acknowledged_all : (IsTrue storage.is_honest → HeldLeaves storage) → (old new : Core D) (commit : Commit) → is_halted new ≡ false → graph new ≡ graph old → facts new ≡ with_facts (facts old) (stated.facts commit)
+      → environment new ≡ with_facts (environment old) (stated.environment commit) → (IsTrue storage.is_honest → IsKept storage.files new) → (IsTrue storage.is_honest → Leaves storage old.vault.disk new.vault.disk (StandsForBeginning (graph old) (environment old) (facts old) [] (commit ∷ [])))
       → IsTrue storage.is_honest → AcknowledgesFrom (graph old) (environment old) (facts old) (storage.left_at new.vault.disk) (storage.moment new.vault.disk) (storage.moment old.vault.disk) [] (commit ∷ []) (in_one new.in_doubt)
   acknowledged_all held old new commit working same sets given kept crash on = (
     storage.moment new.vault.disk,
@@ -293,14 +291,14 @@ module _ {D : Type 0} (storage : Ghosts D) where
   )
 
   -- a commit that was taken
-  ended : (law : TakenInTurn) → (IsTrue storage.is_honest → AppendLeaves storage.files storage.moment storage.left_at) → (IsTrue storage.is_honest → HeldLeaves storage.files storage.moment storage.left_at) → (old new : Core D) (tasks : List Inst) (commit : Commit) (answer : Ended) → is_halted old ≡ false
-      → AllByRecursion IsEnd commit → AreLegalFrom (graph old) (facts old) commit → TakesAll old new tasks commit → new.in_doubt ≡ [] → (IsTrue storage.is_honest → CrashLeaves storage.files storage.moment storage.left_at old new commit) → (IsTrue storage.is_honest → IsKept storage.files new)
-      → Halts {T = Ended} storage.failures storage.refusals old new (Ok answer) → Runs storage old new (commit ∷ [])
+  ended : (law : TakenInTurn) → (IsTrue storage.is_honest → AppendLeaves storage) → (IsTrue storage.is_honest → HeldLeaves storage) → (old new : Core D) (tasks : List Inst) (commit : Commit) (answer : Ended) → is_halted old ≡ false
+      → AllByRecursion IsEnd commit → AreLegalFrom (graph old) (facts old) commit → TakesAll old new tasks commit → new.in_doubt ≡ [] → (IsTrue storage.is_honest → CrashLeaves storage old new commit) → (IsTrue storage.is_honest → IsKept storage.files new)
+      → Halts {T = Ended} storage old new (Ok answer) → Runs storage old new (commit ∷ [])
   ended law leaves held old new tasks commit answer working are legal takes settled moments kept halts =
       let one : (commit ++ []) ++ new.in_doubt ≡ commit = ap (λ (events : List Event). (commit ++ []) ++ events) settled ∙ append-nil (commit ++ []) ∙ append-nil commit in
       let sets : facts new ≡ with_facts (facts old) (stated.facts commit) = λ i fact. facts_after law old new tasks commit takes fact i in
       let given : environment new ≡ with_facts (environment old) (stated.environment commit) = λ i fact. environment_after law old new tasks commit takes fact i in
-      let crash : IsTrue storage.is_honest → LeavesOnly storage.moment storage.left_at old.vault.disk new.vault.disk (StandsForBeginning (graph old) (environment old) (facts old) [] (commit ∷ [])) = λ on. begins leaves old new commit on (moments on) in
+      let crash : IsTrue storage.is_honest → Leaves storage old.vault.disk new.vault.disk (StandsForBeginning (graph old) (environment old) (facts old) [] (commit ∷ [])) = λ on. begins leaves old new commit on (moments on) in
       record {
         are_ends = subst (λ (events : List Event). AllByRecursion IsEnd events) (sym one) are;
         legal = subst (λ (events : List Event). AreLegalFrom (graph old) (facts old) events) (sym one) legal;
@@ -311,7 +309,7 @@ module _ {D : Type 0} (storage : Ghosts D) where
         latest = takes.latest;
         generation = λ _. takes.generation;
         end = λ _. with_record new.vault.journal.end old.vault.journal.end (commit_length commit) takes.moved;
-        crashes = λ on. subst (λ (events : List Event). LeavesOnly storage.moment storage.left_at old.vault.disk new.vault.disk (StandsForBeginning (graph old) (environment old) (facts old) [] (commit ∷ in_one events))) (sym settled) (crash on);
+        crashes = λ on. subst (λ (events : List Event). Leaves storage old.vault.disk new.vault.disk (StandsForBeginning (graph old) (environment old) (facts old) [] (commit ∷ in_one events))) (sym settled) (crash on);
         acknowledged = acknowledged_all held old new commit takes.working.1 (graph_after law old new tasks commit takes) sets given kept crash;
         gates = λ on has. (moments on).gates has;
         halts = (λ is. elim (halts.halts.0 is) [ inl before ↦ absurd (false≢true (sym working ∙ before)) | inr erred ↦ erred ], λ erred. halts.halts.1 (inr erred));
@@ -320,10 +318,10 @@ module _ {D : Type 0} (storage : Ghosts D) where
       }
 
   -- a commit that is refused
-  refused : (IsTrue storage.is_honest → AppendLeaves storage.files storage.moment storage.left_at) → (IsTrue storage.is_honest → RestLeaves storage.files storage.moment storage.left_at) → (IsTrue storage.is_honest → GatesRest storage.files storage.moment storage.left_at) → (old new : Core D) (tasks : List Inst) (commit : Commit) (error : CoreError)
+  refused : (IsTrue storage.is_honest → AppendLeaves storage) → (IsTrue storage.is_honest → RestLeaves storage) → (IsTrue storage.is_honest → GatesRest storage) → (old new : Core D) (tasks : List Inst) (commit : Commit) (error : CoreError)
       → is_halted old ≡ false → old.in_doubt ≡ [] → length commit ≤ old.allowance → (IsTrue storage.is_honest → IsKept storage.files old) → AllByRecursion IsEnd commit → AreLegalFrom (graph old) (facts old) commit → GivesBackAll old new tasks
-      → AreInDoubt {T = Ended} old new commit (Err error) → (is_halted old ≡ false → is_halted new ≡ true → 0 < length commit) → (IsTrue storage.is_honest → is_halted old ≡ false → CrashLeaves storage.files storage.moment storage.left_at old new commit)
-      → Halts {T = Ended} storage.failures storage.refusals old new (Err error) → Runs storage old new []
+      → AreInDoubt {T = Ended} old new commit (Err error) → (is_halted old ≡ false → is_halted new ≡ true → 0 < length commit) → (IsTrue storage.is_honest → is_halted old ≡ false → CrashLeaves storage old new commit)
+      → Halts {T = Ended} storage old new (Err error) → Runs storage old new []
   refused leaves rest_leaves gates_rest old new tasks commit error working settled allowed kept are legal back tried some moments halts = at (is_halted new) refl
     where
       at : (b : Bool) → is_halted new ≡ b → Runs storage old new []
@@ -345,8 +343,8 @@ module _ {D : Type 0} (storage : Ghosts D) where
           let doubt : new.in_doubt ≡ commit = tried working stops in
           let more = some working stops in
           let pending : in_one new.in_doubt ≡ commit ∷ [] = ap in_one doubt ∙ in_one_of commit more in
-          let crash : IsTrue storage.is_honest → LeavesOnly storage.moment storage.left_at old.vault.disk new.vault.disk (StandsForBeginning (graph old) (environment old) (facts old) [] (in_one new.in_doubt)) = λ on.
-          subst (λ (commits : List Commit). LeavesOnly storage.moment storage.left_at old.vault.disk new.vault.disk (StandsForBeginning (graph old) (environment old) (facts old) [] commits)) (sym pending) (begins leaves old new commit on (moments on working))
+          let crash : IsTrue storage.is_honest → Leaves storage old.vault.disk new.vault.disk (StandsForBeginning (graph old) (environment old) (facts old) [] (in_one new.in_doubt)) = λ on.
+          subst (λ (commits : List Commit). Leaves storage old.vault.disk new.vault.disk (StandsForBeginning (graph old) (environment old) (facts old) [] commits)) (sym pending) (begins leaves old new commit on (moments on working))
           in
           record {
             are_ends = subst (λ (events : List Event). AllByRecursion IsEnd events) (sym doubt) are;
@@ -371,9 +369,9 @@ module _ {D : Type 0} (storage : Ghosts D) where
           in_one_of (first ∷ events) is = refl
 
   -- a finish of several is a run by itself
-  pub all_run : (law : TakenInTurn) → CutIsOfEnds → (IsTrue storage.is_honest → AppendLeaves storage.files storage.moment storage.left_at) → (IsTrue storage.is_honest → HeldLeaves storage.files storage.moment storage.left_at) → (IsTrue storage.is_honest → RestLeaves storage.files storage.moment storage.left_at) → (IsTrue storage.is_honest → GatesRest storage.files storage.moment storage.left_at)
+  pub all_run : (law : TakenInTurn) → CutIsOfEnds → (IsTrue storage.is_honest → AppendLeaves storage) → (IsTrue storage.is_honest → HeldLeaves storage) → (IsTrue storage.is_honest → RestLeaves storage) → (IsTrue storage.is_honest → GatesRest storage)
       → (old new : Core D) (tasks : List Inst) (ends : List Event) (result : Result Ended CoreError) → is_halted old ≡ false → old.in_doubt ≡ [] → AreEndsHere old.machine ends → (IsTrue storage.is_honest → IsKept storage.files old) → (IsTrue storage.is_honest → IsKept storage.files new)
-      → (it : FinishesAll storage.files storage.moment storage.left_at (IsTrue storage.is_honest) old new tasks ends result) → OnErr result (length it.commit ≤ old.allowance) → OnErr result (GivesBackAll old new tasks) → Halts storage.failures storage.refusals old new result
+      → (it : FinishesAll storage old new tasks ends result) → OnErr result (length it.commit ≤ old.allowance) → OnErr result (GivesBackAll old new tasks) → Halts storage old new result
       → AllRun storage old new ends result
   all_run law cuts leaves held rest_leaves gates_rest old new tasks ends (Ok answer) working settled here kept kept_after it allowed back halts =
       let is = it.answered in

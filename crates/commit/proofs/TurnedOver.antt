@@ -1,9 +1,8 @@
 -- The whole of what a turnover of a core promises, from what its vault's turnover promises.
+use Rattle.disk.specs.Storage.{ReportsAs}
 use Rattle.disk.specs.declared.storage.Disk.{Ghosts}
 use Rattle.std.proofs.Common.{◌≡◌, ◌∙◌, ◌⊎◌, ◌+◌, ap, refl, subst, inl, inr, ℕ, true, false, List, [], Result, Ok, Err, IsTrue}
-use Rattle.disk.specs.declared.side.Side.{Side}
-use Rattle.disk.specs.File.{File, at_rest}
-use Rattle.disk.specs.Time.{Contents, HasCauses}
+use Rattle.disk.specs.File.{at_rest}
 use Rattle.terms.specs.declared.event.Event.{Event}
 use Rattle.codec.specs.declared.image.Image.{Image}
 use Rattle.codec.specs.Image.{IsListed, Lists}
@@ -39,15 +38,15 @@ abbrev pub answer_of : Result ℕ VaultError → Result ℕ CoreError
 answer_of (Ok generation) = Ok generation
 answer_of (Err error) = Err (Store error)
 
-module _ {D : Type 0} (failures refusals : D → ℕ) (before after : D) where
-  causes_ok : (generation : ℕ) → HasCauses {T = ℕ} failures refusals Device NoMemory before after (Ok generation) → HasCauses {T = ℕ} failures refusals (Store Device) (Store NoMemory) before after (Ok generation)
+module _ {D : Type 0} (storage : Ghosts D) (before after : D) where
+  causes_ok : (generation : ℕ) → ReportsAs {T = ℕ} storage Device NoMemory before after (Ok generation) → ReportsAs {T = ℕ} storage (Store Device) (Store NoMemory) before after (Ok generation)
   causes_ok generation told = record {
     device = (λ is. absurd (not_ok generation (Store Device) is), λ grew. absurd (no_error generation Device (told.device.1 grew)));
     refused = λ changed. absurd (no_error generation NoMemory (told.refused changed));
     later = told.later;
   }
 
-  causes : (error : VaultError) → HasCauses {T = ℕ} failures refusals Device NoMemory before after (Err error) → HasCauses {T = ℕ} failures refusals (Store Device) (Store NoMemory) before after (Err (Store error))
+  causes : (error : VaultError) → ReportsAs {T = ℕ} storage Device NoMemory before after (Err error) → ReportsAs {T = ℕ} storage (Store Device) (Store NoMemory) before after (Err (Store error))
   causes error told = record {
     device = (λ is. told.device.0 (back error Device is), λ grew. store error Device (told.device.1 grew));
     refused = λ changed. store error NoMemory (told.refused changed);
@@ -73,7 +72,7 @@ module _
     cause_of (inr long) = inr (long image (listed, lists))
 
     turned : (generation : ℕ) → calls.TurnsOver v w (image_bytes image) (Ok generation) → (IsTrue storage.is_honest → calls.WritesSide storage.files v w (image_bytes image) (Ok generation)) → calls.IsFullWhere {T = ℕ} v.halted IsCause (Ok generation)
-        → calls.Halts {T = ℕ} storage.failures storage.refusals v w (Ok generation) → (IsTrue storage.is_honest → IsKept storage.files old) → doubt ≡ [] → (IsTrue storage.is_honest → LeavesWhileTurning storage.files storage.moment storage.left_at old new) → TurnsAs storage old new (Ok generation)
+        → calls.Halts {T = ℕ} storage v w (Ok generation) → (IsTrue storage.is_honest → IsKept storage.files old) → doubt ≡ [] → (IsTrue storage.is_honest → LeavesWhileTurning storage old new) → TurnsAs storage old new (Ok generation)
     turned generation over writes full halting kept settled moments = record {
       ok = record { greater = over.side.0; live = (over.side.1, over.side.2); working = over.working; machine = refl; allowance = refl; latest = refl };
       ends = (image, (listed, lists), over.end);
@@ -85,7 +84,7 @@ module _
       halts = record {
         halts = halting.halts;
         halted = (λ is. absurd (not_ok generation (Store Halted) is), λ is. absurd (no_error generation Halted (halting.halted.1 is)));
-        disk = causes_ok storage.failures storage.refusals v.disk w.disk generation halting.disk;
+        disk = causes_ok storage v.disk w.disk generation halting.disk;
         same = tt;
         settled = settled;
       };
@@ -120,7 +119,7 @@ module _
         none (inr (inr (inl is))) = cc
         none (inr (inr (inr is))) = cc
 
-    refused : (error : VaultError) → (IsTrue storage.is_honest → calls.WritesSide storage.files v w (image_bytes image) (Err error)) → calls.IsFullWhere {T = ℕ} v.halted IsCause (Err error) → calls.Halts {T = ℕ} storage.failures storage.refusals v w (Err error) → (IsTrue storage.is_honest → LeavesWhileTurning storage.files storage.moment storage.left_at old new)
+    refused : (error : VaultError) → (IsTrue storage.is_honest → calls.WritesSide storage.files v w (image_bytes image) (Err error)) → calls.IsFullWhere {T = ℕ} v.halted IsCause (Err error) → calls.Halts {T = ℕ} storage v w (Err error) → (IsTrue storage.is_honest → LeavesWhileTurning storage old new)
         → TurnsAs storage old new (Err (Store error))
     refused error writes full halting moments = record {
       ok = tt;
@@ -133,7 +132,7 @@ module _
       halts = record {
         halts = halting.halts;
         halted = (λ is. halting.halted.0 (back error Halted is), λ is. store error Halted (halting.halted.1 is));
-        disk = causes storage.failures storage.refusals v.disk w.disk error halting.disk;
+        disk = causes storage v.disk w.disk error halting.disk;
         same = λ is. (halting.same is, refl);
         settled = tt;
       };
@@ -143,14 +142,14 @@ module _
 
     -- both together, for bytes that spell the image
     pub either : (bytes : List ℕ) → bytes ≡ image_bytes image → (result : Result ℕ VaultError) → calls.TurnsOver v w bytes result → (IsTrue storage.is_honest → calls.WritesSide storage.files v w bytes result)
-        → calls.IsFullWhere v.halted (IsLast v.generation ⊎ IsTooLong (v.generation + 1) v.text.items bytes) result → calls.Halts storage.failures storage.refusals v w result
-        → (IsTrue storage.is_honest → IsKept storage.files old) → doubt ≡ [] → (IsTrue storage.is_honest → LeavesWhileTurning storage.files storage.moment storage.left_at old new) → TurnsAs storage old new (answer_of result)
+        → calls.IsFullWhere v.halted (IsLast v.generation ⊎ IsTooLong (v.generation + 1) v.text.items bytes) result → calls.Halts storage v w result
+        → (IsTrue storage.is_honest → IsKept storage.files old) → doubt ≡ [] → (IsTrue storage.is_honest → LeavesWhileTurning storage old new) → TurnsAs storage old new (answer_of result)
     either bytes spelled result over writes full halting kept settled moments =
         by_image result (subst (λ (spelling : List ℕ). calls.TurnsOver v w spelling result) spelled over) (λ on. subst (λ (spelling : List ℕ). calls.WritesSide storage.files v w spelling result) spelled (writes on))
         (subst (λ (spelling : List ℕ). calls.IsFullWhere v.halted (IsLast v.generation ⊎ IsTooLong (v.generation + 1) v.text.items spelling) result) spelled full) halting kept settled moments
       where
-        by_image : (result : Result ℕ VaultError) → calls.TurnsOver v w (image_bytes image) result → (IsTrue storage.is_honest → calls.WritesSide storage.files v w (image_bytes image) result) → calls.IsFullWhere v.halted IsCause result → calls.Halts storage.failures storage.refusals v w result
-            → (IsTrue storage.is_honest → IsKept storage.files old) → doubt ≡ [] → (IsTrue storage.is_honest → LeavesWhileTurning storage.files storage.moment storage.left_at old new) → TurnsAs storage old new (answer_of result)
+        by_image : (result : Result ℕ VaultError) → calls.TurnsOver v w (image_bytes image) result → (IsTrue storage.is_honest → calls.WritesSide storage.files v w (image_bytes image) result) → calls.IsFullWhere v.halted IsCause result → calls.Halts storage v w result
+            → (IsTrue storage.is_honest → IsKept storage.files old) → doubt ≡ [] → (IsTrue storage.is_honest → LeavesWhileTurning storage old new) → TurnsAs storage old new (answer_of result)
         by_image (Ok generation) over writes full halting kept settled moments = turned generation over writes full halting kept settled moments
         by_image (Err error) over writes full halting kept settled moments = refused error writes full halting moments
 
@@ -162,7 +161,7 @@ memory_device is = cc
 
 -- memory was refused first, so the core is as it was
 pub unlisted : {D : Type 0} (storage : Ghosts D) (old now : Core D) → old ≡ now → is_halted old ≡ false
-    → (IsTrue storage.is_honest → LeavesWhileTurning storage.files storage.moment storage.left_at old old) → TurnsAs storage now now (Err (Store NoMemory))
+    → (IsTrue storage.is_honest → LeavesWhileTurning storage old old) → TurnsAs storage now now (Err (Store NoMemory))
 unlisted {D} storage old now same working moments =
     subst (λ (core : Core D). TurnsAs storage core core (Err (Store NoMemory))) same
     (record {
@@ -173,7 +172,7 @@ unlisted {D} storage old now same working moments =
       err = record { stays = record { graph = refl; facts = λ _. refl; environment = λ _. refl; allowance = refl; latest = refl }; states = λ _. refl };
       refused = working;
       full = λ _ cause. inr refl;
-      halts = unhalted {T = ℕ} storage.failures storage.refusals old old (Store NoMemory) working refl refl memory_halts memory_device;
+      halts = unhalted {T = ℕ} storage old old (Store NoMemory) working refl refl memory_halts memory_device;
       doubt = refl;
       moments = λ on _. moments on;
     })

@@ -1,9 +1,6 @@
 -- Several outcomes that are committed together: what they say, how far they come, and what is promised of them.
 use Rattle.disk.specs.declared.storage.Disk.{Ghosts}
-use Rattle.std.specs.Prelude.{◌≡◌, ◌⊎◌, ◌+◌, ◌<◌, ◌++◌, ⊤, ℕ, true, false, List, [], ◌∷◌, length, drop, Option, Some, None, Result, Ok, Err, IsErrOf, IfOk, IfErr, OnErr, IsTrue}
-use Rattle.disk.specs.declared.side.Side.{Side}
-use Rattle.disk.specs.File.{File}
-use Rattle.disk.specs.Time.{Contents}
+use Rattle.std.specs.Prelude.{◌≡◌, ◌⊎◌, ◌+◌, ◌≤◌, ◌<◌, ◌++◌, ⊤, ℕ, true, false, List, [], ◌∷◌, length, drop, Option, Some, None, Result, Ok, Err, IsErrOf, IfOk, IfErr, OnErr, IsTrue}
 use Rattle.terms.specs.declared.name.Inst.{Inst}
 use Rattle.terms.specs.declared.event.Event.{Event}
 use Rattle.terms.specs.declared.event.Event.TheVariants as event
@@ -14,7 +11,7 @@ use Rattle.terms.specs.Sets.{Facts, with_facts}
 use Rattle.graph.specs.Graph.{Graph}
 use Rattle.graph.specs.Fits.{HasNoFault}
 use Rattle.machine.specs.declared.group.Ended.{Ended}
-use Rattle.machine.specs.Group.{AreRunning, EndsTogether, GivesAllBack, TakesInTurn, cut}
+use Rattle.machine.specs.Group.{AreEndedBy, AreRunning, EndsTogether, GivesAllBack, TakesInTurn, cut}
 use Rattle.machine.specs.Machine.{Machine, RefusesEnd}
 use Rattle.vault.specs.declared.error.VaultError.TheVariants.{Device, NoMemory, Damaged, Full, NotAStore, Halted, Exists}
 use Rattle.commit.specs.declared.error.CoreError.{CoreError}
@@ -133,16 +130,27 @@ RefusesAllFirst c (Store other) = ⊥
 
 -- ---- the call
 
+-- what committing ends of the first of the tasks requires: there are some, and all of the instances run
+pub record EndTheFirst {D : Type 0} (c : Core D) (tasks : List Inst) (ends : List Event) : Type 0 where
+  pub ended : AreEndedBy ends tasks
+  pub running : AreRunning c.machine tasks
+  pub some : 1 ≤ length ends
+
+-- why a call refuses these ends, and when it says that their records do not fit
+pub record RefusesEndsAs {D T : Type 0} (c : Core D) (ends : List Event) (result : Result T CoreError) : Type 0 where
+  pub refused : IfErr result (RefusesAll c ends)
+  pub full : TellsFullAll c ends result
+
 -- These ends are committed as one at `Ok`, as far as they come together, or refused. At each moment a crash leaves the facts before the commit or those
 -- after it. What is tried is in doubt if the call halted the core.
-pub record FinishesAll {D : Type 0} (files : D → Side → File) (moment : D → ℕ) (left_at : D → ℕ → Contents → Type 0) (honest : Type 0) (old new : Core D) (tasks : List Inst) (ends : List Event) (result : Result Ended CoreError) : Type 0 where
+pub record FinishesAll {D : Type 0} (storage : Ghosts D) (old new : Core D) (tasks : List Inst) (ends : List Event) (result : Result Ended CoreError) : Type 0 where
   pub commit : Commit
   pub tried : TriesTogether old ends commit
   pub answered : IfOk result (EndsAsAnswered old new tasks ends commit)
   pub refused : IfErr result (RefusesAll old commit)
   pub full : TellsFullAll old commit result
   pub doubt : AreInDoubt old new commit result × OnErr result (is_halted old ≡ false → is_halted new ≡ true → 0 < length commit)
-  pub moments : honest → is_halted old ≡ false → CrashLeaves files moment left_at old new commit
+  pub moments : IsTrue storage.is_honest → is_halted old ≡ false → CrashLeaves storage old new commit
 
 -- it is a run by itself: of one commit at `Ok`, and of none at an error
 abbrev pub AllRun : {D : Type 0} → Ghosts D → (old new : Core D) → List Event → Result Ended CoreError → Type 0
@@ -152,7 +160,7 @@ AllRun storage old new ends (Err error) = Runs storage old new []
 -- What a finish of several promises of these ends of the instances: they are committed as far as they come together, or refused; at an error each instance is ready; and it is
 -- a run by itself.
 pub record EndsAll {D : Type 0} (storage : Ghosts D) (old new : Core D) (tasks : List Inst) (ends : List Event) (result : Result Ended CoreError) : Type 0 where
-  pub finishes : FinishesAll storage.files storage.moment storage.left_at (IsTrue storage.is_honest) old new tasks ends result
+  pub finishes : FinishesAll storage old new tasks ends result
   pub err : OnErr result (GivesBackAll old new tasks)
-  pub halts : Halts storage.failures storage.refusals old new result
+  pub halts : Halts storage old new result
   pub runs : is_halted old ≡ false → AllRun storage old new ends result

@@ -1,16 +1,12 @@
 -- What the calls of a core promise: the event that comes at `Ok`, and what an error says and leaves.
+use Rattle.disk.specs.Storage.{Errs, Leaves, ReportsAs}
 use Rattle.disk.specs.declared.storage.Disk.{Ghosts}
 use Rattle.std.specs.Prelude.{◌≡◌, ◌≢◌, ◌⊎◌, ◌↔◌, ◌≤◌, ◌+◌, ℕ, true, false, List, [], ◌∷◌, length, Result, Some, IsErrOf, OnOk, OnErr, IfErr, IsTrue}
-use Rattle.disk.specs.declared.side.Side.{Side}
-use Rattle.disk.specs.File.{File}
-use Rattle.disk.specs.Time.{Contents, LeavesOnly, HasCauses, HasErred}
 use Rattle.terms.specs.declared.name.Inst.{Inst}
 use Rattle.terms.specs.declared.event.Event.{Event}
 use Rattle.terms.specs.declared.event.Event.TheVariants.{EnvItem, EnvTag, Done, Stopped}
 use Rattle.terms.specs.Commits.{Commit}
 use Rattle.terms.specs.Facts.{Fact}
-use Rattle.codec.specs.Commits.{commit_bytes}
-use Rattle.journal.specs.Records.{record_of}
 use Rattle.journal.specs.declared.journal.TheConstants.{LIMIT}
 use Rattle.instances.specs.declared.state.State.TheVariants.{Ready}
 use Rattle.machine.specs.declared.refusal.Refusal.{Refusal}
@@ -18,6 +14,7 @@ use Rattle.machine.specs.Legal.{IsLegal}
 use Rattle.machine.specs.Machine as machine
 use Rattle.vault.specs.declared.error.VaultError.TheVariants.{Device, NoMemory, Damaged, Full, NotAStore, Halted, Exists}
 use Rattle.vault.specs.Store.{IsSame, HasGates, StandsBeforeOrAfter}
+use Rattle.vault.specs.Groups.{records_of}
 use Rattle.vault.specs.Opened.{contents_of}
 use Rattle.commit.specs.declared.error.CoreError.{CoreError}
 use Rattle.commit.specs.declared.error.CoreError.TheVariants.{Refused, Store}
@@ -32,9 +29,9 @@ step_count (EnvTag name) = 0
 step_count (Done instance puts) = 1
 step_count (Stopped instance kind) = 1
 
--- how many bytes the record of a commit has, and that of one event
+-- how many bytes the records of a commit have, and the record of one event
 abbrev pub commit_length : Commit → ℕ
-commit_length commit = length (record_of (commit_bytes commit))
+commit_length commit = length (records_of commit)
 
 abbrev pub record_length : Event → ℕ
 record_length event = commit_length (event ∷ [])
@@ -71,7 +68,7 @@ pub record GivesBack {D : Type 0} (old new : Core D) (instance : Inst) : Type 0 
 
 -- ---- refusals
 
--- the closed gate after the record of the commit, or of the event, would not lie below the limit
+-- the closed gate after the records of the commit, or that of the event, would not lie below the limit
 abbrev pub AreTooLong : {D : Type 0} → Core D → Commit → Type 0
 AreTooLong c commit = LIMIT ≤ c.vault.journal.end + commit_length commit
 
@@ -94,14 +91,19 @@ Refuses c why event (Store Exists) = ⊥
 abbrev pub TellsFull : {D T : Type 0} → Core D → Event → Result T CoreError → Type 0
 TellsFull c event result = is_halted c ≡ false → IsLegal (graph c) (facts c) event → IsTooLong c event → IsErrOf result (Store Full) ⊎ IsErrOf result (Store NoMemory)
 
+-- why a call refuses an event, and when it says that its record does not fit
+pub record RefusesAs {D T : Type 0} (c : Core D) (why : Refusal → Type 0) (event : Event) (result : Result T CoreError) : Type 0 where
+  pub refused : IfErr result (Refuses c why event)
+  pub full : TellsFull c event result
+
 -- ---- halts
 
 -- When a call halts: exactly if a call of the disk returned an error. Which error it returns then, what another one leaves, and what is in
 -- doubt from then on.
-pub record Halts {D T : Type 0} (failures refusals : D → ℕ) (old new : Core D) (result : Result T CoreError) : Type 0 where
-  pub halts : (is_halted new ≡ true) ↔ ((is_halted old ≡ true) ⊎ HasErred failures refusals old.vault.disk new.vault.disk)
+pub record Halts {D T : Type 0} (storage : Ghosts D) (old new : Core D) (result : Result T CoreError) : Type 0 where
+  pub halts : (is_halted new ≡ true) ↔ ((is_halted old ≡ true) ⊎ Errs storage old.vault.disk new.vault.disk)
   pub halted : IsErrOf result (Store Halted) ↔ (is_halted old ≡ true)
-  pub disk : HasCauses failures refusals (Store Device) (Store NoMemory) old.vault.disk new.vault.disk result
+  pub disk : ReportsAs storage (Store Device) (Store NoMemory) old.vault.disk new.vault.disk result
   -- if an error does not halt it, nothing on the disk has changed
   pub same : OnErr result (is_halted new ≡ is_halted old → IsSame old.vault new.vault × (new.in_doubt ≡ old.in_doubt))
   pub settled : OnOk result (new.in_doubt ≡ [])
@@ -113,13 +115,18 @@ AreInDoubt old new commit result = OnErr result (is_halted old ≡ false → is_
 abbrev pub IsInDoubt : {D T : Type 0} → Core D → Core D → Event → Result T CoreError → Type 0
 IsInDoubt old new event result = AreInDoubt old new (event ∷ []) result
 
+-- in addition, it is in doubt
+pub record HaltsInDoubt {D T : Type 0} (storage : Ghosts D) (old new : Core D) (commit : Commit) (result : Result T CoreError) : Type 0 where
+  pub halts : Halts storage old new result
+  pub doubt : AreInDoubt old new commit result
+
 -- ---- crashes
 
 -- What a crash leaves at any moment of a call that commits these events at `Ok`: the facts before them or after them, and nothing between. If each file
 -- has a first byte, each file keeps one.
-pub record CrashLeaves {D : Type 0} (files : D → Side → File) (moment : D → ℕ) (left_at : D → ℕ → Contents → Type 0) (old new : Core D) (events : List Event) : Type 0 where
-  pub facts : LeavesOnly moment left_at old.vault.disk new.vault.disk (StandsBeforeOrAfter (graph old) (environment old) (facts old) events)
-  pub gates : HasGates (contents_of (files old.vault.disk)) → LeavesOnly moment left_at old.vault.disk new.vault.disk HasGates
+pub record CrashLeaves {D : Type 0} (storage : Ghosts D) (old new : Core D) (events : List Event) : Type 0 where
+  pub facts : Leaves storage old.vault.disk new.vault.disk (StandsBeforeOrAfter (graph old) (environment old) (facts old) events)
+  pub gates : HasGates (contents_of (storage.files old.vault.disk)) → Leaves storage old.vault.disk new.vault.disk HasGates
 
 -- no cause of a refusal
 abbrev pub NoCause : Refusal → Type 0
@@ -129,18 +136,18 @@ NoCause refusal = ⊥
 
 -- A call that commits this event at `Ok`: the event was legal, and was taken; or why it is refused, and what is in doubt if it halted. A crash at any
 -- moment of it leaves the facts before the event or after it.
-pub record Commits {D T : Type 0} (files : D → Side → File) (moment : D → ℕ) (left_at : D → ℕ → Contents → Type 0) (honest : Type 0) (old new : Core D) (why : Refusal → Type 0) (event : Event) (result : Result T CoreError) : Type 0 where
+pub record Commits {D T : Type 0} (storage : Ghosts D) (old new : Core D) (why : Refusal → Type 0) (event : Event) (result : Result T CoreError) : Type 0 where
   pub takes : OnOk result (Takes old new event)
   pub refused : IfErr result (Refuses old why event)
   pub full : TellsFull old event result
   pub doubt : IsInDoubt old new event result
-  pub moments : honest → is_halted old ≡ false → CrashLeaves files moment left_at old new (event ∷ [])
+  pub moments : IsTrue storage.is_honest → is_halted old ≡ false → CrashLeaves storage old new (event ∷ [])
 
 -- The whole of such a call: it also says what is unchanged at an error, and when it halts.
 pub record CommitsAs {D T : Type 0} (storage : Ghosts D) (old new : Core D) (why : Refusal → Type 0) (event : Event) (result : Result T CoreError) : Type 0 where
-  pub commits : Commits storage.files storage.moment storage.left_at (IsTrue storage.is_honest) old new why event result
+  pub commits : Commits storage old new why event result
   pub unchanged : OnErr result (IsUnchanged old new)
-  pub halts : Halts storage.failures storage.refusals old new result
+  pub halts : Halts storage old new result
 
 -- nothing has changed but the states of instances and the allowance: such is each claim, park, release and allowance, and each call of a halted core
 pub record KeepsStore {D : Type 0} (old new : Core D) : Type 0 where

@@ -1,9 +1,10 @@
 -- What a creation returns, and what it leaves.
 use Rattle.std.specs.Prelude.{◌≡◌, ◌≢◌, ◌⊎◌, ℕ, false, List, [], Result, Ok, Err, IsErrOf, OnOk}
+use Rattle.disk.specs.Storage.{Leaves}
+use Rattle.disk.specs.declared.storage.Disk.{Ghosts}
 use Rattle.disk.specs.declared.side.Side.{Side}
 use Rattle.disk.specs.declared.side.Side.TheVariants.{A, B}
-use Rattle.disk.specs.File.{File}
-use Rattle.disk.specs.Time.{Contents, MayLeaveNow, LeavesOnly}
+use Rattle.disk.specs.Time.{MayLeaveNow}
 use Rattle.terms.specs.Facts.{Fact}
 use Rattle.graph.specs.Graph.{Graph as TheGraph}
 use Rattle.graph.specs.Reads.{HasCause, Reads}
@@ -16,15 +17,23 @@ use Rattle.commit.specs.declared.creation.NotCreated.{NotCreated}
 use Rattle.commit.specs.Core.{Core, graph, facts, environment}
 use Rattle.commit.specs.Opened.{IsOpened}
 
+-- A new core of this graph: it has no facts, it is as one that was just opened, and it has the first generation.
+pub record IsNewOf {D : Type 0} (g : TheGraph) (c : Core D) : Type 0 where
+  pub graph : graph c ≡ g
+  pub facts : (fact : Fact) → facts c fact ≡ false
+  pub environment : (fact : Fact) → environment c fact ≡ false
+  pub opened : IsOpened c
+  pub generation : c.vault.generation ≡ 1
+
 -- A new store: the text reads as its graph, it has no facts, its core is as one that was just opened, and it has the first generation. On an honest
 -- disk each file has its first byte.
-pub record IsCreated {D : Type 0} (files : D → Side → File) (honest : Type 0) (text : List ℕ) (c : Core D) : Type 0 where
+pub record IsCreated {D : Type 0} (storage : Ghosts D) (text : List ℕ) (c : Core D) : Type 0 where
   pub reads : Reads text (graph c)
   pub facts : (fact : Fact) → facts c fact ≡ false
   pub environment : (fact : Fact) → environment c fact ≡ false
   pub opened : IsOpened c
   pub generation : c.vault.generation ≡ 1
-  pub gates : honest → HasGates (contents_of (files c.vault.disk))
+  pub gates : IsTrue storage.is_honest → HasGates (contents_of (storage.files c.vault.disk))
 
 -- why no store was made: the text has this fault, and the disk is as it was; or the text is a graph's, and a file is not empty, memory was refused, or
 -- device failed
@@ -47,8 +56,8 @@ answer_of (Err refused) = Err refused.error
 
 -- If the files are not both empty, on an honest disk: no store is made of them, both stay as they are, and a crash at any moment leaves what one
 -- might have left before. `Exists` says that one is not empty.
-pub record LeavesOthers {D T : Type 0} (files : D → Side → File) (moment : D → ℕ) (left_at : D → ℕ → Contents → Type 0) (old new : D) (result : Result T CreateError) : Type 0 where
-  pub were_empty : OnOk result ((side : Side) → (files old side).content ≡ [])
-  pub exists : IsErrOf result (Store Exists) → ((files old A).content ≢ []) ⊎ ((files old B).content ≢ [])
-  pub kept : (some : Side) → (files old some).content ≢ [] → (side : Side) → files new side ≡ files old side
-  pub moments : (some : Side) → (files old some).content ≢ [] → LeavesOnly moment left_at old new (MayLeaveNow (files old))
+pub record LeavesOthers {D T : Type 0} (storage : Ghosts D) (old new : D) (result : Result T CreateError) : Type 0 where
+  pub were_empty : OnOk result ((side : Side) → (storage.files old side).content ≡ [])
+  pub exists : IsErrOf result (Store Exists) → ((storage.files old A).content ≢ []) ⊎ ((storage.files old B).content ≢ [])
+  pub kept : (some : Side) → (storage.files old some).content ≢ [] → (side : Side) → storage.files new side ≡ storage.files old side
+  pub moments : (some : Side) → (storage.files old some).content ≢ [] → Leaves storage old new (MayLeaveNow (storage.files old))

@@ -1,5 +1,6 @@
 -- What a core keeps from call to call.
 use Rattle.std.specs.Prelude.{◌≡◌, ◌≤◌, true, false, []}
+use Rattle.disk.specs.declared.storage.Disk.{Ghosts}
 use Rattle.disk.specs.declared.side.Side.{Side}
 use Rattle.disk.specs.File.{File}
 use Rattle.disk.specs.Time.{Contents, MayLeaveNow}
@@ -20,8 +21,8 @@ pub record IsKept {D : Type 0} (files : D → Side → File) (c : Core D) : Type
 
 -- All that a core keeps: on an honest disk its files hold what it has, nothing is in doubt unless it is halted, its state in memory is sound, and no
 -- more instances run than it may commit steps.
-pub record Keeps {D : Type 0} (files : D → Side → File) (honest : Type 0) (c : Core D) : Type 0 where
-  pub kept : honest → IsKept files c
+pub record Keeps {D : Type 0} (storage : Ghosts D) (c : Core D) : Type 0 where
+  pub kept : IsTrue storage.is_honest → IsKept storage.files c
   pub settled : is_halted c ≡ false → c.in_doubt ≡ []
   pub machine : KeepsMachine c.machine
   pub allowed : running_count c.machine ≤ c.allowance

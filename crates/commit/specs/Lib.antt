@@ -1,4 +1,3 @@
-pub mod Ahead
 pub mod Batch
 pub mod Calls
 pub mod Came

@@ -1,9 +1,9 @@
 -- What an opening and a creation return.
+use Rattle.disk.specs.Storage.{Errs, ReportsAs}
 use Rattle.disk.specs.declared.storage.Disk.{Ghosts}
 use Rattle.std.specs.Prelude.{◌≡◌, ℕ, false, [], Some, Result, Ok, Err, IfOk, IfErr, IsTrue}
 use Rattle.disk.specs.declared.side.Side.{Side}
 use Rattle.disk.specs.File.{File}
-use Rattle.disk.specs.Time.{Contents, HasCauses, HasErred}
 use Rattle.terms.specs.declared.name.Inst.{Inst}
 use Rattle.terms.specs.Facts.{done}
 use Rattle.graph.specs.Fits.{IsPrescribed}
@@ -48,7 +48,7 @@ Finds files disk c = Stands (contents_of (files disk)) (graph c) (environment c)
 pub record OpensAs {D : Type 0} (storage : Ghosts D) (disk : D) (result : Result (Core D) (Refused D)) : Type 0 where
   pub opened : IfOk result IsOpened
   pub finds : IsTrue storage.is_honest → IfOk result (Finds storage.files disk)
-  pub tells : IsTrue storage.is_honest → TellsWhy (contents_of (storage.files disk)) (HasErred storage.failures storage.refusals disk (disk_of result)) (answer_of result)
-  pub only_reads : IsTrue storage.is_honest → OnlyReads storage.files storage.moment storage.left_at disk (disk_of result)
+  pub tells : IsTrue storage.is_honest → TellsWhy (contents_of (storage.files disk)) (Errs storage disk (disk_of result)) (answer_of result)
+  pub only_reads : IsTrue storage.is_honest → OnlyReads storage disk (disk_of result)
   pub errors : IfErr result (λ refused. IsOfOpening refused.error)
-  pub causes : HasCauses storage.failures storage.refusals Device NoMemory disk (disk_of result) (answer_of result)
+  pub causes : ReportsAs storage Device NoMemory disk (disk_of result) (answer_of result)

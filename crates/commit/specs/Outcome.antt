@@ -1,8 +1,6 @@
 -- What an instance came to, and the event that says so.
+use Rattle.disk.specs.declared.storage.Disk.{Ghosts}
 use Rattle.std.specs.Prelude.{◌≡◌, ◌⊎◌, ℕ, List, Result, IfOk}
-use Rattle.disk.specs.declared.side.Side.{Side}
-use Rattle.disk.specs.File.{File}
-use Rattle.disk.specs.Time.{Contents}
 use Rattle.terms.specs.declared.fault.FaultKind.TheVariants.{DoublePut}
 use Rattle.terms.specs.declared.name.Inst.{Inst}
 use Rattle.terms.specs.declared.event.Event.{Event}
@@ -45,15 +43,15 @@ Tells Done end = (instance : Inst) × (puts : List Put) × (end ≡ event.Done i
 Tells (Stopped kind) end = (instance : Inst) × (end ≡ event.Stopped instance kind)
 
 -- One of these ends is committed at `Ok`, as the result says, or refused.
-pub record EndsGiven {D : Type 0} (files : D → Side → File) (moment : D → ℕ) (left_at : D → ℕ → Contents → Type 0) (honest : Type 0) (old new : Core D) (instance : Inst) (puts : List Put) (result : Result Committed CoreError) : Type 0 where
+pub record EndsGiven {D : Type 0} (storage : Ghosts D) (old new : Core D) (instance : Inst) (puts : List Put) (result : Result Committed CoreError) : Type 0 where
   pub end : Event
   pub is_end : IsEndOfGiven instance puts end
-  pub commits : Commits files moment left_at honest old new (RefusesEnd (facts old)) end result
+  pub commits : Commits storage old new (RefusesEnd (facts old)) end result
   pub told : IfOk result (λ committed. Tells committed end)
 
 -- An end of the instance is committed at `Ok`, as the result says, or refused.
-pub record Finishes {D : Type 0} (files : D → Side → File) (moment : D → ℕ) (left_at : D → ℕ → Contents → Type 0) (honest : Type 0) (old new : Core D) (instance : Inst) (outcome : Outcome) (result : Result Committed CoreError) : Type 0 where
+pub record Finishes {D : Type 0} (storage : Ghosts D) (old new : Core D) (instance : Inst) (outcome : Outcome) (result : Result Committed CoreError) : Type 0 where
   pub end : Event
   pub is_end : IsEndOf outcome instance end
-  pub commits : Commits files moment left_at honest old new (RefusesEnd (facts old)) end result
+  pub commits : Commits storage old new (RefusesEnd (facts old)) end result
   pub told : IfOk result (λ committed. Tells committed end)

@@ -1,9 +1,6 @@
 -- Several puts of the environment that are committed as one: how many of them come, and what is promised of them.
 use Rattle.disk.specs.declared.storage.Disk.{Ghosts}
 use Rattle.std.specs.Prelude.{◌≡◌, ◌+◌, ◌<◌, ℕ, true, false, List, [], ◌∷◌, length, take, Result, Ok, Err, IfOk, IfErr, OnOk, OnErr, IsTrue}
-use Rattle.disk.specs.declared.side.Side.{Side}
-use Rattle.disk.specs.File.{File}
-use Rattle.disk.specs.Time.{Contents}
 use Rattle.terms.specs.declared.event.Event.{Event}
 use Rattle.terms.specs.Commits.{Commit}
 use Rattle.machine.specs.Group.{TakesInTurn}
@@ -44,6 +41,11 @@ RefusesPuts c commit (Store (Damaged side place)) = ⊥
 RefusesPuts c commit (Store NotAStore) = ⊥
 RefusesPuts c commit (Store Exists) = ⊥
 
+-- why a call refuses these puts, and when it says that their records do not fit
+pub record RefusesPutsAs {D T : Type 0} (c : Core D) (commit : Commit) (result : Result T CoreError) : Type 0 where
+  pub refused : IfErr result (RefusesPuts c commit)
+  pub full : TellsFullAll c commit result
+
 -- What a call promises that tries these puts as one commit: they were taken, or why they are refused; an error leaves everything as it was, and when it halts. At each moment a
 -- crash leaves the facts before the commit or those after it. The commit is in doubt if the call halted the core.
 pub record TriesPuts {D : Type 0} (storage : Ghosts D) (old new : Core D) (commit : Commit) (result : Result ℕ CoreError) : Type 0 where
@@ -52,8 +54,8 @@ pub record TriesPuts {D : Type 0} (storage : Ghosts D) (old new : Core D) (commi
   pub refused : IfErr result (RefusesPuts old commit)
   pub full : is_halted old ≡ false → TellsFullAll old commit result
   pub doubt : AreInDoubt old new commit result
-  pub moments : IsTrue storage.is_honest → is_halted old ≡ false → CrashLeaves storage.files storage.moment storage.left_at old new commit
-  pub halts : Halts storage.failures storage.refusals old new result
+  pub moments : IsTrue storage.is_honest → is_halted old ≡ false → CrashLeaves storage old new commit
+  pub halts : Halts storage old new result
 
 -- the core goes on by these puts as one commit; by none, if none comes or they are refused
 abbrev pub PutsGoOn : {D : Type 0} → Ghosts D → (old new : Core D) → Commit → Result ℕ CoreError → Type 0

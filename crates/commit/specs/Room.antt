@@ -1,9 +1,12 @@
 -- Room is made before an event is committed.
-use Rattle.std.specs.Prelude.{◌≡◌, true, false}
+use Rattle.std.specs.Prelude.{◌≡◌, List, true, false}
 use Rattle.terms.specs.declared.event.Event.{Event}
 use Rattle.machine.specs.declared.refusal.Refusal.{Refusal}
 use Rattle.machine.specs.Legal.{IsLegal}
+use Rattle.machine.specs.Group.{puts_of_all}
+use Rattle.machine.specs.Machine.{HasRoom, puts_of}
 use Rattle.machine.specs.Room as machine
+use Rattle.machine.specs.State.{AreLegalFrom}
 use Rattle.vault.specs.declared.error.VaultError.TheVariants.{NoMemory, Halted}
 use Rattle.commit.specs.declared.error.CoreError.{CoreError}
 use Rattle.commit.specs.declared.error.CoreError.TheVariants.{Refused, Store}
@@ -24,3 +27,15 @@ RefusesFirst c why event (Refused refusal) = (is_halted c ≡ false) × why refu
 RefusesFirst c why event (Store Halted) = is_halted c ≡ true
 RefusesFirst c why event (Store NoMemory) = (is_halted c ≡ false) × IsLegal (graph c) (facts c) event
 RefusesFirst c why event (Store other) = ⊥
+
+-- what a commit requires: the core is not halted, the event is legal, and there is room for what it puts
+pub record IsDue {D : Type 0} (c : Core D) (event : Event) : Type 0 where
+  pub working : is_halted c ≡ false
+  pub legal : IsLegal (graph c) (facts c) event
+  pub room : HasRoom c.machine (puts_of event)
+
+-- the same for several events, each of which comes after those before it
+pub record AreDue {D : Type 0} (c : Core D) (events : List Event) : Type 0 where
+  pub working : is_halted c ≡ false
+  pub legal : AreLegalFrom (graph c) (facts c) events
+  pub room : HasRoom c.machine (puts_of_all events)

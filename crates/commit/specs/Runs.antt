@@ -4,8 +4,6 @@ use Rattle.std.specs.Prelude.{◌≡◌, ◌≢◌, ◌⊎◌, ◌↔◌, ◌+�
 use Rattle.std.specs.List.{AllByRecursion}
 use mathlib.Core.List.{IsPrefix}
 use Rattle.journal.specs.declared.journal.TheConstants.{LIMIT}
-use Rattle.disk.specs.declared.side.Side.{Side}
-use Rattle.disk.specs.File.{File}
 use Rattle.disk.specs.Time.{Contents, LeavesSince}
 use Rattle.terms.specs.declared.name.Inst.{Inst}
 use Rattle.terms.specs.declared.event.Event.{Event}
@@ -80,8 +78,8 @@ pub record Begun : Type 0 where
   pub refusals : ℕ
   pub contents : Contents
 
-abbrev pub begun_by : {D : Type 0} → (D → Side → File) → (D → ℕ) → (failures refusals : D → ℕ) → Core D → Begun
-begun_by files moment failures refusals c = record {
+abbrev pub begun_by : {D : Type 0} → Ghosts D → Core D → Begun
+begun_by storage c = record {
   graph = core.graph c;
   facts = core.facts c;
   environment = core.environment c;
@@ -89,10 +87,10 @@ begun_by files moment failures refusals c = record {
   latest = c.latest;
   generation = c.vault.generation;
   end = c.vault.journal.end;
-  moment = moment c.vault.disk;
-  failures = failures c.vault.disk;
-  refusals = refusals c.vault.disk;
-  contents = contents_of (files c.vault.disk);
+  moment = storage.moment c.vault.disk;
+  failures = storage.failures c.vault.disk;
+  refusals = storage.refusals c.vault.disk;
+  contents = contents_of (storage.files c.vault.disk);
 }
 
 -- how many bytes the records of these commits have
@@ -110,7 +108,7 @@ latest_after before (commit ∷ commits) = latest_after commit commits
 -- is the latest. The journal has their records behind those that it had, and the generation stays. At each moment a
 -- crash leaves what a prefix of them states, each of which is there whole: those that were acknowledged by then, or these and the next one. The core is halted exactly if a call of the
 -- disk returned an error.
-pub record RunsSince {D : Type 0} (moment : D → ℕ) (left_at : D → ℕ → Contents → Type 0) (failures refusals : D → ℕ) (honest : Type 0) (begun : Begun) (left : ℕ → Contents → Type 0) (new : Core D) (commits : List Commit) : Type 0 where
+pub record RunsSince {D : Type 0} (storage : Ghosts D) (begun : Begun) (left : ℕ → Contents → Type 0) (new : Core D) (commits : List Commit) : Type 0 where
   pub are_ends : AllByRecursion IsEnd (events_of commits ++ new.in_doubt)
   pub legal : AreLegalFrom begun.graph begun.facts (events_of commits ++ new.in_doubt)
   pub graph : core.graph new ≡ begun.graph
@@ -120,16 +118,16 @@ pub record RunsSince {D : Type 0} (moment : D → ℕ) (left_at : D → ℕ → 
   pub latest : new.latest ≡ latest_after begun.latest commits
   pub generation : is_halted new ≡ false → new.vault.generation ≡ begun.generation
   pub end : is_halted new ≡ false → new.vault.journal.end ≡ begun.end + records_length commits
-  pub crashes : honest → LeavesSince moment left_at begun.moment left new.vault.disk (StandsForBeginning begun.graph begun.environment begun.facts [] (commits ++ in_one new.in_doubt))
-  pub acknowledged : honest → AcknowledgesFrom begun.graph begun.environment begun.facts (left_at new.vault.disk) (moment new.vault.disk) begun.moment [] commits (in_one new.in_doubt)
-  pub gates : honest → HasGates begun.contents → LeavesSince moment left_at begun.moment left new.vault.disk HasGates
-  pub halts : (is_halted new ≡ true) ↔ ((begun.failures < failures new.vault.disk) ⊎ (refusals new.vault.disk ≢ begun.refusals))
-  pub later : begun.failures ≤ failures new.vault.disk
+  pub crashes : IsTrue storage.is_honest → LeavesSince storage.moment storage.left_at begun.moment left new.vault.disk (StandsForBeginning begun.graph begun.environment begun.facts [] (commits ++ in_one new.in_doubt))
+  pub acknowledged : IsTrue storage.is_honest → AcknowledgesFrom begun.graph begun.environment begun.facts (storage.left_at new.vault.disk) (storage.moment new.vault.disk) begun.moment [] commits (in_one new.in_doubt)
+  pub gates : IsTrue storage.is_honest → HasGates begun.contents → LeavesSince storage.moment storage.left_at begun.moment left new.vault.disk HasGates
+  pub halts : (is_halted new ≡ true) ↔ ((begun.failures < storage.failures new.vault.disk) ⊎ (storage.refusals new.vault.disk ≢ begun.refusals))
+  pub later : begun.failures ≤ storage.failures new.vault.disk
   pub some_in_doubt : is_halted new ≡ true → (0 < length new.in_doubt) × (length (events_of commits) + length new.in_doubt ≤ begun.allowance)
 
 -- the same from one core to another
 abbrev pub Runs : {D : Type 0} → Ghosts D → (old new : Core D) → List Commit → Type 0
-Runs storage old new commits = RunsSince storage.moment storage.left_at storage.failures storage.refusals (IsTrue storage.is_honest) (begun_by storage.files storage.moment storage.failures storage.refusals old) (storage.left_at old.vault.disk) new commits
+Runs storage old new commits = RunsSince storage (begun_by storage old) (storage.left_at old.vault.disk) new commits
 
 -- ---- what is returned
 
@@ -193,7 +191,7 @@ EndRuns storage old new instance outcome (Err error) = Runs storage old new []
 
 -- What a finish promises: an end of the instance is committed, or refused; at an error the instance is ready; and it is a run by itself.
 pub record Ends {D : Type 0} (storage : Ghosts D) (old new : Core D) (task : Inst) (outcome : Outcome) (result : Result Committed CoreError) : Type 0 where
-  pub finishes : Finishes storage.files storage.moment storage.left_at (IsTrue storage.is_honest) old new task outcome result
+  pub finishes : Finishes storage old new task outcome result
   pub err : OnErr result (GivesBack old new task)
-  pub halts : Halts storage.failures storage.refusals old new result
+  pub halts : Halts storage old new result
   pub runs : is_halted old ≡ false → EndRuns storage old new task outcome result

@@ -1,9 +1,9 @@
 -- What a turnover of a core promises.
+use Rattle.disk.specs.Storage.{Leaves}
 use Rattle.disk.specs.declared.storage.Disk.{Ghosts}
 use Rattle.std.specs.Prelude.{◌≡◌, ◌≢◌, ◌⊎◌, ◌+◌, ℕ, true, false, [], length, Result, IsErrOf, IfOk, IfErr, OnErr, IsTrue}
 use Rattle.disk.specs.declared.side.Side.{Side}
 use Rattle.disk.specs.File.{File, at_rest}
-use Rattle.disk.specs.Time.{Contents, LeavesOnly}
 use Rattle.codec.specs.declared.image.Image.{Image}
 use Rattle.codec.specs.Image.{IsListed, Lists}
 use Rattle.codec.specs.Spelling.{image_bytes}
@@ -60,9 +60,9 @@ TellsFullTurn c result =
     is_halted c ≡ false → IsLast c.vault.generation ⊎ ((image : Image) → IsImageOf c image → IsTooLongWith c image) → IsErrOf result (Store Full) ⊎ IsErrOf result (Store NoMemory)
 
 -- What a crash leaves at any moment of a turnover: the facts of the core, if the other file has a first byte. If each file has one, each keeps one.
-pub record LeavesWhileTurning {D : Type 0} (files : D → Side → File) (moment : D → ℕ) (left_at : D → ℕ → Contents → Type 0) (old new : Core D) : Type 0 where
-  pub facts : (files old.vault.disk (other_side old.vault.journal.side)).content ≢ [] → LeavesOnly moment left_at old.vault.disk new.vault.disk (λ contents. Stands contents (graph old) (environment old) (facts old))
-  pub gates : HasGates (contents_of (files old.vault.disk)) → LeavesOnly moment left_at old.vault.disk new.vault.disk HasGates
+pub record LeavesWhileTurning {D : Type 0} (storage : Ghosts D) (old new : Core D) : Type 0 where
+  pub facts : (storage.files old.vault.disk (other_side old.vault.journal.side)).content ≢ [] → Leaves storage old.vault.disk new.vault.disk (λ contents. Stands contents (graph old) (environment old) (facts old))
+  pub gates : HasGates (contents_of (storage.files old.vault.disk)) → Leaves storage old.vault.disk new.vault.disk HasGates
 
 -- What a turnover promises. On an honest disk the file that was live stays as it was, whatever is returned.
 pub record TurnsAs {D : Type 0} (storage : Ghosts D) (old new : Core D) (result : Result ℕ CoreError) : Type 0 where
@@ -73,6 +73,6 @@ pub record TurnsAs {D : Type 0} (storage : Ghosts D) (old new : Core D) (result 
   pub err : OnErr result (IsUnchanged old new)
   pub refused : IfErr result (RefusesTurn old)
   pub full : TellsFullTurn old result
-  pub halts : Halts storage.failures storage.refusals old new result
+  pub halts : Halts storage old new result
   pub doubt : new.in_doubt ≡ old.in_doubt
-  pub moments : IsTrue storage.is_honest → is_halted old ≡ false → LeavesWhileTurning storage.files storage.moment storage.left_at old new
+  pub moments : IsTrue storage.is_honest → is_halted old ≡ false → LeavesWhileTurning storage old new

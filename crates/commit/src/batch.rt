@@ -8,12 +8,12 @@ use std::marker::Model;
 use terms::{Event, Inst};
 
 /// The greatest number of instances that are committed together.
-pub const MOST_TOGETHER: usize = 64;
+pub const MOST_TOGETHER: usize = 256;
 
 /// How many a batch has room for when it is made; more room is made as it grows.
 const FIRST_ROOM: usize = 8;
 
-/// What came of 1 to 64 instances, each with its task, to be committed together. It is spent by `finish_all`, or pair by pair by `pop`.
+/// What came of 1 to 256 instances, each with its task, to be committed together. It is spent by `finish_all`, or pair by pair by `pop`.
 ///
 /// A contract sees its instances and their outcomes, in the order in which they were added.
 pub struct Batch<'a> {

@@ -10,26 +10,22 @@ use terms::{Event, facts_are_told_apart};
 use vault::stores_go_on;
 
 impl<D: Disk> Core<D> {
-    ghost use Rattle.std.specs.Prelude.{◌≡◌, false, [], ◌∷◌, IsTrue, IfErr, OnErr, OnOk, Some};
+    ghost use Rattle.std.specs.Prelude.{◌≡◌, [], ◌∷◌, IsTrue, OnErr, OnOk, Some};
     ghost use Rattle.instances.specs.declared.state.State.TheVariants.{Running};
-    ghost use Rattle.machine.specs.Legal.{IsLegal};
-    ghost use Rattle.machine.specs.Machine.{Ends, HasRoom, IsPut, puts_of};
-    ghost use Rattle.commit.specs.Core.{facts, graph, is_halted, state_of};
-    ghost use Rattle.commit.specs.Calls.{Takes, IsUnchanged, GivesBack, Refuses, TellsFull, Halts, IsInDoubt, CrashLeaves, NoCause};
+    ghost use Rattle.machine.specs.Machine.{Ends, IsPut};
+    ghost use Rattle.commit.specs.Core.{state_of};
+    ghost use Rattle.commit.specs.Calls.{CrashLeaves, GivesBack, HaltsInDoubt, IsUnchanged, NoCause, RefusesAs, Takes};
+    ghost use Rattle.commit.specs.Room.{IsDue};
 
-    /// Commits a put of the environment. It must be legal, and there must be room for it.
+    /// Commits a put of the environment, which must be due.
     pub(crate) fn commit_put(&mut self, event: Event) -> Result<(), CoreError>
         requires put { IsPut event }
-        requires working { is_halted self.old ≡ false }
-        requires legal { IsLegal (graph self.old) (facts self.old) event }
-        requires room { HasRoom self.old.machine (puts_of event) }
+        requires due { IsDue self.old event }
         ensures ok { OnOk result (Takes self.old self.new event) }
         ensures err { OnErr result (IsUnchanged self.old self.new) }
-        ensures refused { IfErr result (Refuses self.old NoCause event) }
-        ensures full { TellsFull self.old event result }
-        ensures halts { Halts D.failures D.refusals self.old self.new result }
-        ensures doubt { IsInDoubt self.old self.new event result }
-        ensures moments { IsTrue D.is_honest → CrashLeaves D.files D.moment D.left_at self.old self.new (event ∷ []) }
+        ensures refused { RefusesAs self.old NoCause event result }
+        ensures halts { HaltsInDoubt D.Disk self.old self.new (event ∷ []) result }
+        ensures moments { IsTrue D.is_honest → CrashLeaves D.Disk self.old self.new (event ∷ []) }
     {
         legal_events_fit();
         runs_are_counted();
@@ -48,21 +44,16 @@ impl<D: Disk> Core<D> {
         }
     }
 
-    /// Commits the end of the instance of a task. It must be legal, and there must be room for it. If it is refused the
-    /// instance is ready.
+    /// Commits the end of the instance of a task, which must be due. If it is refused the instance is ready.
     pub(crate) fn commit_step(&mut self, task: Task, event: Event) -> Result<(), CoreError>
         requires ends { Ends event task }
         requires running { state_of self.old task ≡ Some Running }
-        requires working { is_halted self.old ≡ false }
-        requires legal { IsLegal (graph self.old) (facts self.old) event }
-        requires room { HasRoom self.old.machine (puts_of event) }
+        requires due { IsDue self.old event }
         ensures ok { OnOk result (Takes self.old self.new event) }
         ensures err { OnErr result (GivesBack self.old self.new task) }
-        ensures refused { IfErr result (Refuses self.old NoCause event) }
-        ensures full { TellsFull self.old event result }
-        ensures halts { Halts D.failures D.refusals self.old self.new result }
-        ensures doubt { IsInDoubt self.old self.new event result }
-        ensures moments { IsTrue D.is_honest → CrashLeaves D.files D.moment D.left_at self.old self.new (event ∷ []) }
+        ensures refused { RefusesAs self.old NoCause event result }
+        ensures halts { HaltsInDoubt D.Disk self.old self.new (event ∷ []) result }
+        ensures moments { IsTrue D.is_honest → CrashLeaves D.Disk self.old self.new (event ∷ []) }
     {
         legal_events_fit();
         runs_are_counted();

@@ -30,32 +30,30 @@ pub struct NotCreated<D: Disk> {
 }
 
 impl<D: Disk> Core<D> {
-    ghost use Rattle.std.specs.Prelude.{◌≡◌, ◌⊎◌, [], false, IfErr, IfOk, IsTrue};
-    ghost use Rattle.terms.specs.Facts.{Fact};
+    ghost use Rattle.std.specs.Prelude.{◌≡◌, [], IfErr, IfOk, IsTrue};
+    ghost use Rattle.disk.specs.Storage.{Leaves, ReportsAs};
     ghost use Rattle.disk.specs.declared.side.Side.TheVariants.{A};
     ghost use Rattle.disk.specs.File.{at_rest};
-    ghost use Rattle.disk.specs.Time.{HasCauses, LeavesOnly};
     ghost use Rattle.graph.specs.Canonical.{canonical};
     ghost use Rattle.graph.specs.Reads.{Reads};
-    ghost use Rattle.vault.specs.Calls.{LeavesNonEmpty};
+    ghost use Rattle.vault.specs.Calls.{LeavesNonEmpty, RefusesToMake};
     ghost use Rattle.vault.specs.Opened.{contents_of};
     ghost use Rattle.vault.specs.Store.{BComesFirst, HasGates, answer_of as made_answer};
-    ghost use Rattle.vault.specs.declared.error.VaultError.TheVariants.{Device, NoMemory, Exists};
+    ghost use Rattle.vault.specs.declared.error.VaultError.TheVariants.{Device, NoMemory};
     ghost use Rattle.commit.specs.declared.creation.CreateError.TheVariants.{Store};
-    ghost use Rattle.commit.specs.Core.{graph as graph_of, facts, environment};
-    ghost use Rattle.commit.specs.Created.{IsCreated, TellsCreation, LeavesOthers, disk_of, answer_of};
-    ghost use Rattle.commit.specs.Opened.{IsOpened, disk_of as opened_disk};
+    ghost use Rattle.commit.specs.Created.{IsCreated, IsNewOf, TellsCreation, LeavesOthers, disk_of, answer_of};
+    ghost use Rattle.commit.specs.Opened.{disk_of as opened_disk};
 
     /// Makes a store of the graph of this text, on two empty files. It holds nothing.
     ///
     /// The text is checked first, and all memory is asked for before the first call of the disk. Files that are not both
     /// empty are left as they are: `Exists`. An error hands the disk back.
     pub fn create(alloc: Global, disk: D, text: &[u8]) -> Result<Core<D>, NotCreated<D>>
-        ensures created { IfOk result (IsCreated D.files (IsTrue D.is_honest) text.now) }
+        ensures created { IfOk result (IsCreated D.Disk text.now) }
         ensures refused { IfErr result (TellsCreation text.now disk) }
-        ensures others { IsTrue D.is_honest → LeavesOthers D.files D.moment D.left_at disk (disk_of result) (answer_of result) }
-        ensures begins { IsTrue D.is_honest → D.files disk A ≡ at_rest [] → LeavesOnly D.moment D.left_at disk (disk_of result) BComesFirst }
-        ensures causes { HasCauses D.failures D.refusals (Store Device) (Store NoMemory) disk (disk_of result) (answer_of result) }
+        ensures others { IsTrue D.is_honest → LeavesOthers D.Disk disk (disk_of result) (answer_of result) }
+        ensures begins { IsTrue D.is_honest → D.files disk A ≡ at_rest [] → Leaves D.Disk disk (disk_of result) BComesFirst }
+        ensures causes { ReportsAs D.Disk (Store Device) (Store NoMemory) disk (disk_of result) (answer_of result) }
         ensures grown_first { IfErr result (λ refused. refused.error ≡ Store NoMemory → D.refusals refused.disk ≡ D.refusals disk → refused.disk ≡ disk) }
     {
         canonical_reads();
@@ -82,17 +80,11 @@ impl<D: Disk> Core<D> {
     fn made(alloc: Global, disk: D, graph: Graph, text: &[u8]) -> Result<Core<D>, Refused<D>>
         requires spelled { text.now ≡ canonical graph }
         requires reads { Reads text.now graph }
-        ensures graph { IfOk result (λ core. graph_of core ≡ graph) }
-        ensures facts { IfOk result (λ core. (fact : Fact) → facts core fact ≡ false) }
-        ensures environment { IfOk result (λ core. (fact : Fact) → environment core fact ≡ false) }
-        ensures opened { IfOk result IsOpened }
-        ensures generation { IfOk result (λ core. core.vault.generation ≡ 1) }
+        ensures core { IfOk result (IsNewOf graph) }
         ensures gates { IsTrue D.is_honest → IfOk result (λ core. HasGates (contents_of (D.files core.vault.disk))) }
-        ensures errors { IfErr result (λ refused. (refused.error ≡ Exists) ⊎ (refused.error ≡ NoMemory) ⊎ (refused.error ≡ Device)) }
-        ensures others { IsTrue D.is_honest → LeavesNonEmpty D.files D.moment D.left_at disk (opened_disk result) (made_answer result) }
-        ensures begins { IsTrue D.is_honest → D.files disk A ≡ at_rest [] → LeavesOnly D.moment D.left_at disk (opened_disk result) BComesFirst }
-        ensures causes { HasCauses D.failures D.refusals Device NoMemory disk (opened_disk result) (made_answer result) }
-        ensures grown_first { IfErr result (λ refused. refused.error ≡ NoMemory → D.refusals refused.disk ≡ D.refusals disk → refused.disk ≡ disk) }
+        ensures others { IsTrue D.is_honest → LeavesNonEmpty D.Disk disk (opened_disk result) (made_answer result) }
+        ensures begins { IsTrue D.is_honest → D.files disk A ≡ at_rest [] → Leaves D.Disk disk (opened_disk result) BComesFirst }
+        ensures refused { RefusesToMake D.Disk disk (opened_disk result) (made_answer result) }
     {
         stores_go_on::<D>();
         match empty_machine(alloc, graph) {

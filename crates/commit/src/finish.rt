@@ -63,9 +63,9 @@ impl<D: Disk> Core<D> {
         requires running { state_of self.old task ≡ Some Running }
         requires working { is_halted self.old ≡ false }
         requires gives { BodyGives (graph self.old) (facts self.old) task puts }
-        ensures ends { EndsGiven D.files D.moment D.left_at (IsTrue D.is_honest) self.old self.new task puts result }
+        ensures ends { EndsGiven D.Disk self.old self.new task puts result }
         ensures err { OnErr result (GivesBack self.old self.new task) }
-        ensures halts { Halts D.failures D.refusals self.old self.new result }
+        ensures halts { Halts D.Disk self.old self.new result }
     {
         stores_go_on::<D>();
         self.is_kept();
@@ -84,10 +84,10 @@ impl<D: Disk> Core<D> {
         requires running { state_of self.old task ≡ Some Running }
         requires working { is_halted self.old ≡ false }
         requires faults { BodyFaults (graph self.old) (facts self.old) task kind }
-        ensures commits { Commits D.files D.moment D.left_at (IsTrue D.is_honest) self.old self.new (RefusesEnd (facts self.old)) (Stopped task kind) result }
+        ensures commits { Commits D.Disk self.old self.new (RefusesEnd (facts self.old)) (Stopped task kind) result }
         ensures told { IfOk result (λ told. told ≡ committed.Stopped kind) }
         ensures err { OnErr result (GivesBack self.old self.new task) }
-        ensures halts { Halts D.failures D.refusals self.old self.new result }
+        ensures halts { Halts D.Disk self.old self.new result }
     {
         stores_go_on::<D>();
         self.is_kept();
@@ -105,10 +105,10 @@ impl<D: Disk> Core<D> {
         requires running { state_of self.old task ≡ Some Running }
         requires working { is_halted self.old ≡ false }
         requires legal { IsLegal (graph self.old) (facts self.old) (Done task puts) }
-        ensures commits { Commits D.files D.moment D.left_at (IsTrue D.is_honest) self.old self.new NoCause (Done task puts) result }
+        ensures commits { Commits D.Disk self.old self.new NoCause (Done task puts) result }
         ensures told { IfOk result (λ told. told ≡ committed.Done) }
         ensures err { OnErr result (GivesBack self.old self.new task) }
-        ensures halts { Halts D.failures D.refusals self.old self.new result }
+        ensures halts { Halts D.Disk self.old self.new result }
     {
         stores_go_on::<D>();
         self.is_kept();
@@ -132,10 +132,10 @@ impl<D: Disk> Core<D> {
         requires running { state_of self.old task ≡ Some Running }
         requires working { is_halted self.old ≡ false }
         requires legal { IsLegal (graph self.old) (facts self.old) (Stopped task kind) }
-        ensures commits { Commits D.files D.moment D.left_at (IsTrue D.is_honest) self.old self.new NoCause (Stopped task kind) result }
+        ensures commits { Commits D.Disk self.old self.new NoCause (Stopped task kind) result }
         ensures told { IfOk result (λ told. told ≡ committed.Stopped kind) }
         ensures err { OnErr result (GivesBack self.old self.new task) }
-        ensures halts { Halts D.failures D.refusals self.old self.new result }
+        ensures halts { Halts D.Disk self.old self.new result }
     {
         let event = Event::Stopped(task.inst(), kind);
         match self.commit_step(task, event) {

@@ -16,40 +16,35 @@ impl<D: Disk> Core<D> {
     ghost use Rattle.graph.specs.Fits.{HasNoFault};
     ghost use Rattle.vault.specs.declared.error.VaultError.TheVariants.{NoMemory};
     ghost use Rattle.commit.specs.declared.error.CoreError.TheVariants.{Store};
-    ghost use Rattle.machine.specs.Group.{AreEndedBy, AreEndsHere, AreRunning, EndsTogether, cut, ended_by, puts_of_all};
+    ghost use Rattle.machine.specs.Group.{AreEndsHere, AreRunning, EndsTogether, cut, ended_by, puts_of_all};
     ghost use Rattle.machine.specs.Machine.{HasRoom};
     ghost use Rattle.machine.specs.State.{AreLegalFrom};
-    ghost use Rattle.commit.specs.declared.batch.TheConstants.{MOST_TOGETHER};
     ghost use Rattle.commit.specs.Core.{facts, graph, is_halted};
-    ghost use Rattle.commit.specs.Calls.{AreInDoubt, CrashLeaves, Halts};
-    ghost use Rattle.commit.specs.Batch.{AreOutcomesOf, EndsAll, GivesBackAll, RefusesAll, RefusesAllFirst, TakesAll, TellsFullAll, ends_said};
-    ghost use Rattle.commit.specs.Room.{GivesRoom};
+        ghost use Rattle.commit.specs.Batch.{AreOutcomesOf, EndTheFirst, EndsAll, GivesBackAll, RefusesAllFirst, RefusesEndsAs, TakesAll, ends_said};
+    ghost use Rattle.commit.specs.Calls.{CrashLeaves, HaltsInDoubt};
+    ghost use Rattle.commit.specs.Room.{AreDue, GivesRoom};
 
     /// Commits what the bodies of several instances came to, as one commit: a crash leaves all of it, or nothing. Each end comes after those
     /// before it. The first one that is at fault, by its body or by a double put, ends the commit and stops the store; the instances after it are
     /// ready again. The answer says how far the commit goes.
     ///
-    /// `ahead` is laid behind the commit's record, so that the commits that are to follow find their records there: it is what
-    /// `Batch::spell_ahead` adds for them, or nothing. It is looked at, never believed.
-    ///
     /// Each outcome must be of its task's instance, of which none is there twice, and of the body of its step in this graph, and the items that
     /// it read must be items of this core. The causes of a refusal, in their order: `Halted`; a fault stopped the store; `Full`. If the
     /// ends are refused, all of the instances are ready.
-    pub fn finish_all(&mut self, batch: Batch<'_>, ahead: &[u8]) -> Result<Ended, CoreError>
+    pub fn finish_all(&mut self, batch: Batch<'_>) -> Result<Ended, CoreError>
         requires { AreOutcomesOf self.old batch }
         ensures { EndsAll D.Disk self.old self.new batch.entry.tasks (ends_said batch.entry) result }
     {
         results_are_meant();
         let (tasks, ends) = batch.into_ends();
-        self.end_all(tasks, ends, ahead)
+        self.end_all(tasks, ends)
     }
 
-    // Commits these ends of the instances of the tasks, and lays `ahead` behind their record.
-    fn end_all(&mut self, tasks: Tasks, ends: Vec<Event>, ahead: &[u8]) -> Result<Ended, CoreError>
+    // Commits these ends of the instances of the tasks.
+    fn end_all(&mut self, tasks: Tasks, ends: Vec<Event>) -> Result<Ended, CoreError>
         requires here { AreEndsHere self.old.machine ends.items }
         requires ended { ended_by ends.items ≡ tasks }
         requires some { 1 ≤ length ends.items }
-        requires few { length ends.items ≤ MOST_TOGETHER }
         ensures { EndsAll D.Disk self.old self.new tasks ends.items result }
     {
         stores_go_on::<D>();
@@ -59,7 +54,7 @@ impl<D: Disk> Core<D> {
         let mut ends = ends;
         match self.make_ready_for_ends(&mut ends) {
             Ok(ended) => {
-                let answer = self.commit_ends(tasks, ends, ended, ahead);
+                let answer = self.commit_ends(tasks, ends, ended);
                 self.is_kept();
                 answer
             }
@@ -135,30 +130,20 @@ impl<D: Disk> Core<D> {
         self.machine.runs_all(tasks)
     }
 
-    // Commits these ends of the first of the tasks, which are what comes of a group by this answer. They must be legal, and there must be room
-    // for them. If they are refused, all of the instances are ready; otherwise those that did not end are.
+    // Commits these ends of the first of the tasks, which must be due; the answer is the one that is given. If they are refused, all of the instances are ready; otherwise those that did not end are.
     fn commit_ends(
         &mut self,
         tasks: Tasks,
         ends: Vec<Event>,
         ended: Ended,
-        ahead: &[u8],
     ) -> Result<Ended, CoreError>
-        requires ended { AreEndedBy ends.items tasks }
-        requires running { AreRunning self.old.machine tasks }
-        requires some { 1 ≤ length ends.items }
-        requires few { length ends.items ≤ MOST_TOGETHER }
-        requires working { is_halted self.old ≡ false }
-        requires legal { AreLegalFrom (graph self.old) (facts self.old) ends.items }
-        requires room { HasRoom self.old.machine (puts_of_all ends.items) }
-        ensures ok { OnOk result (TakesAll self.old self.new tasks ends.items) }
-        ensures told { IfOk result (λ answer. answer ≡ ended) }
+        requires tasks { EndTheFirst self.old tasks ends.items }
+        requires due { AreDue self.old ends.items }
+        ensures ok { IfOk result (λ answer. (answer ≡ ended) × TakesAll self.old self.new tasks ends.items) }
         ensures err { OnErr result (GivesBackAll self.old self.new tasks) }
-        ensures refused { IfErr result (RefusesAll self.old ends.items) }
-        ensures full { TellsFullAll self.old ends.items result }
-        ensures halts { Halts D.failures D.refusals self.old self.new result }
-        ensures doubt { AreInDoubt self.old self.new ends.items result }
-        ensures moments { IsTrue D.is_honest → CrashLeaves D.files D.moment D.left_at self.old self.new ends.items }
+        ensures refused { RefusesEndsAs self.old ends.items result }
+        ensures halts { HaltsInDoubt D.Disk self.old self.new ends.items result }
+        ensures moments { IsTrue D.is_honest → CrashLeaves D.Disk self.old self.new ends.items }
         ensures within { OnErr result (length tasks ≤ self.old.allowance) }
     {
         fit_in_turn();
@@ -166,7 +151,7 @@ impl<D: Disk> Core<D> {
         stores_go_on::<D>();
         self.machine.is_kept();
         let count = ends.len() as u64;
-        match self.vault.append_all(&ends, ahead) {
+        match self.vault.append_all(&ends) {
             Ok(()) => {
                 let mut tasks = tasks;
                 self.machine.take_ends(&mut tasks, &ends);

@@ -7,7 +7,7 @@ impl<D: Disk> Core<D> {
 
     /// A law, with nothing to run: what a core keeps from call to call.
     pub fn is_kept(&self)
-        ensures { Keeps D.files (IsTrue D.is_honest) self.now }
+        ensures { Keeps D.Disk self.now }
     {
         self.machine.is_kept();
     }

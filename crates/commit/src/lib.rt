@@ -20,7 +20,6 @@ mod finish;
 mod finish_all;
 mod gets;
 mod keeping;
-mod laying;
 mod opening;
 mod outcome;
 mod put_all;

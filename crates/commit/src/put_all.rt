@@ -8,16 +8,14 @@ use terms::Event;
 use vault::{VaultError, stores_go_on};
 
 impl<D: Disk> Core<D> {
-    ghost use Rattle.std.specs.Prelude.{◌≡◌, ◌≤◌, false, IsTrue, IfErr, IfOk, OnErr, OnOk, length};
+    ghost use Rattle.std.specs.Prelude.{◌≡◌, ◌≤◌, false, IfOk, IsTrue, OnErr, length};
     ghost use Rattle.std.specs.List.{AllByRecursion};
-    ghost use Rattle.machine.specs.Group.{puts_of_all};
-    ghost use Rattle.machine.specs.Machine.{HasRoom, IsPut};
+    ghost use Rattle.machine.specs.Machine.{IsPut};
     ghost use Rattle.machine.specs.State.{AreLegalFrom};
-    ghost use Rattle.commit.specs.declared.batch.TheConstants.{MOST_TOGETHER};
     ghost use Rattle.commit.specs.Core.{facts, graph, is_halted};
-    ghost use Rattle.commit.specs.Batch.{TellsFullAll};
-    ghost use Rattle.commit.specs.Calls.{AreInDoubt, CrashLeaves, Halts, IsUnchanged};
-    ghost use Rattle.commit.specs.PutsAll.{PutsAll, RefusesPuts, TakesPuts, TriesPuts};
+    ghost use Rattle.commit.specs.PutsAll.{PutsAll, RefusesPutsAs, TakesPuts, TriesPuts};
+    ghost use Rattle.commit.specs.Calls.{CrashLeaves, HaltsInDoubt, IsUnchanged};
+    ghost use Rattle.commit.specs.Room.{AreDue};
 
     /// Commits several puts of the environment as one commit, each after those before it, as far as they come together: up to the
     /// first that may not come, given those before it. A crash leaves all of the commit, or nothing. The answer is how many came; if
@@ -26,8 +24,7 @@ impl<D: Disk> Core<D> {
     /// It is refused with `Halted` by a halted core; otherwise only if some come: with `NoMemory`, with `Full`, or with `Device`. An error
     /// that does not halt leaves everything as it was; after one that does, all of the commit may be there, or nothing of it.
     pub fn put_all(&mut self, puts: Vec<Event>) -> Result<usize, CoreError>
-        requires puts { AllByRecursion IsPut puts.items }
-        requires few { length puts.items ≤ MOST_TOGETHER }
+        requires { AllByRecursion IsPut puts.items }
         ensures { PutsAll D.Disk self.old self.new puts.items result }
     {
         stores_go_on::<D>();
@@ -50,7 +47,6 @@ impl<D: Disk> Core<D> {
     // Commits these puts as one commit. There must be some, they must be legal, one after another.
     fn put_together(&mut self, puts: Vec<Event>) -> Result<usize, CoreError>
         requires some { 1 ≤ length puts.items }
-        requires few { length puts.items ≤ MOST_TOGETHER }
         requires puts { AllByRecursion IsPut puts.items }
         requires working { is_halted self.old ≡ false }
         requires legal { AreLegalFrom (graph self.old) (facts self.old) puts.items }
@@ -68,19 +64,13 @@ impl<D: Disk> Core<D> {
     // Commits these puts as one commit, for which there must be room.
     fn commit_puts(&mut self, puts: Vec<Event>) -> Result<usize, CoreError>
         requires some { 1 ≤ length puts.items }
-        requires few { length puts.items ≤ MOST_TOGETHER }
         requires puts { AllByRecursion IsPut puts.items }
-        requires working { is_halted self.old ≡ false }
-        requires legal { AreLegalFrom (graph self.old) (facts self.old) puts.items }
-        requires room { HasRoom self.old.machine (puts_of_all puts.items) }
-        ensures ok { OnOk result (TakesPuts self.old self.new puts.items) }
-        ensures told { IfOk result (λ answer. answer ≡ length puts.items) }
+        requires due { AreDue self.old puts.items }
+        ensures ok { IfOk result (λ answer. (answer ≡ length puts.items) × TakesPuts self.old self.new puts.items) }
         ensures err { OnErr result (IsUnchanged self.old self.new) }
-        ensures refused { IfErr result (RefusesPuts self.old puts.items) }
-        ensures full { TellsFullAll self.old puts.items result }
-        ensures halts { Halts D.failures D.refusals self.old self.new result }
-        ensures doubt { AreInDoubt self.old self.new puts.items result }
-        ensures moments { IsTrue D.is_honest → CrashLeaves D.files D.moment D.left_at self.old self.new puts.items }
+        ensures refused { RefusesPutsAs self.old puts.items result }
+        ensures halts { HaltsInDoubt D.Disk self.old self.new puts.items result }
+        ensures moments { IsTrue D.is_honest → CrashLeaves D.Disk self.old self.new puts.items }
     {
         fit_in_turn();
         taken_in_turn();
@@ -88,7 +78,7 @@ impl<D: Disk> Core<D> {
         stores_go_on::<D>();
         self.machine.is_kept();
         let count = puts.len();
-        match self.vault.append_all(&puts, &[]) {
+        match self.vault.append_all(&puts) {
             Ok(()) => {
                 self.machine.take_puts(&puts);
                 keep_latest(&mut self.latest, puts);

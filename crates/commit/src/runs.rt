@@ -152,8 +152,7 @@ impl<D: Disk> Core<D> {
         requires graph { graph.now ≡ graph_of self.old }
         requires running { state_of self.old task ≡ Some Running }
         requires alone { (instance : Instance) → instance ≢ task → state_of self.old instance ≢ Some Running }
-        requires working { is_halted self.old ≡ false }
-        requires no_fault { HasNoFault (facts self.old) }
+        requires goes_on { (is_halted self.old ≡ false) × HasNoFault (facts self.old) }
         ensures idle { NoneRuns self.new }
         ensures runs { RunsOn D.Disk self.old self.new }
         ensures ok { IfOk result (λ ended. (is_halted self.new ≡ false) × (self.new.in_doubt ≡ []) × (ended ≡ true → self.new.allowance < self.old.allowance) × (ended ≡ false → (self.new.allowance ≡ self.old.allowance) × (ready_count self.new ≡ ready_count self.old))) }

@@ -60,9 +60,9 @@ kept_more both go_on goes_on Ran opening passes number d old new commit kept com
     }
 
 -- no commit comes
-pub kept_same : {D T : Type 0} (failures refusals : D → ℕ) (Ran : List Commit → Core D → Type 0) (opening : Opening) (passes : ℕ) (d : Desk) (old new : Core D) (commit : Commit) (error : CoreError) → (is_halted old ≡ false → is_halted new ≡ true → 0 < length commit)
-    → IsKept Ran opening passes d old → Stays old new → Halts {T = T} failures refusals old new (Err error) → AreInDoubt {T = T} old new commit (Err error) → Ran (commits d.book.history) new → IsKept Ran opening passes d new
-kept_same failures refusals Ran opening passes d old new commit error some kept stays halts doubt ran = record {
+pub kept_same : {D T : Type 0} (storage : Ghosts D) (Ran : List Commit → Core D → Type 0) (opening : Opening) (passes : ℕ) (d : Desk) (old new : Core D) (commit : Commit) (error : CoreError) → (is_halted old ≡ false → is_halted new ≡ true → 0 < length commit)
+    → IsKept Ran opening passes d old → Stays old new → Halts {T = T} storage old new (Err error) → AreInDoubt {T = T} old new commit (Err error) → Ran (commits d.book.history) new → IsKept Ran opening passes d new
+kept_same storage Ran opening passes d old new commit error some kept stays halts doubt ran = record {
   alone = kept.alone;
   passes = kept.passes;
   behind = behind_same opening (commits d.book.history) old new kept.behind stays;
@@ -86,10 +86,10 @@ kept_same failures refusals Ran opening passes d old new commit error some kept 
     by_case true is turned = kept.turned (is, sym (halts.same (turned.0 ∙ sym is)).1 ∙ turned.1)
 
 -- an event by itself is refused
-pub kept_refused : {D T : Type 0} (failures refusals : D → ℕ) (Ran : List Commit → Core D → Type 0) (opening : Opening) (passes : ℕ) (d : Desk) (old new : Core D) (event : Event) (error : CoreError)
-    → IsKept Ran opening passes d old → Stays old new → Halts {T = T} failures refusals old new (Err error) → IsInDoubt {T = T} old new event (Err error) → Ran (commits d.book.history) new → IsKept Ran opening passes d new
-kept_refused {D} {T} failures refusals Ran opening passes d old new event error kept stays halts doubt ran =
-    kept_same {D = D} {T = T} failures refusals Ran opening passes d old new (event ∷ []) error (λ _ _. omega arith) kept stays halts doubt ran
+pub kept_refused : {D T : Type 0} (storage : Ghosts D) (Ran : List Commit → Core D → Type 0) (opening : Opening) (passes : ℕ) (d : Desk) (old new : Core D) (event : Event) (error : CoreError)
+    → IsKept Ran opening passes d old → Stays old new → Halts {T = T} storage old new (Err error) → IsInDoubt {T = T} old new event (Err error) → Ran (commits d.book.history) new → IsKept Ran opening passes d new
+kept_refused {D} {T} storage Ran opening passes d old new event error kept stays halts doubt ran =
+    kept_same {D = D} {T = T} storage Ran opening passes d old new (event ∷ []) error (λ _ _. omega arith) kept stays halts doubt ran
 
 -- no commit comes, and nothing happens to the files
 pub kept_on : {D : Type 0} (Ran : List Commit → Core D → Type 0) → RanStays Ran → (opening : Opening) (passes : ℕ) (d : Desk) (old new : Core D) → IsKept Ran opening passes d old → Stays old new → new.vault ≡ old.vault → new.in_doubt ≡ old.in_doubt
@@ -133,11 +133,11 @@ crash_leaves files opening history c behind kept not_turned contents may =
     subst (λ (at : Graph × (Facts × Facts)). StandsBeforeOrAfter at.0 at.1.0 at.1.1 c.in_doubt contents) (λ i. (behind.graph i, (behind.environment i, behind.facts i))) (kept.left not_turned contents may)
 
 -- on a core that was halted, a crash leaves what one might have left when the hub was opened
-pub crash_rests : {D : Type 0} (files : D → Side → File) (moment : D → ℕ) (left_at : D → ℕ → Contents → Type 0) (opening : Opening) (left : ℕ → Contents → Type 0) (c : Core D)
-    → ((contents : Contents) → MayLeaveNow (files c.vault.disk) contents → left_at c.vault.disk (moment c.vault.disk) contents)
-    → Rests moment left_at opening left c → (contents : Contents) → MayLeaveNow (files c.vault.disk) contents → left opening.moment contents
-crash_rests files moment left_at opening left c now rests contents may =
-    subst (λ (t : ℕ). left t contents) rests.since (rests.leaves (moment c.vault.disk) contents (now contents may))
+pub crash_rests : {D : Type 0} (storage : Ghosts D) (opening : Opening) (left : ℕ → Contents → Type 0) (c : Core D)
+    → ((contents : Contents) → MayLeaveNow (storage.files c.vault.disk) contents → storage.left_at c.vault.disk (storage.moment c.vault.disk) contents)
+    → Rests storage opening left c → (contents : Contents) → MayLeaveNow (storage.files c.vault.disk) contents → left opening.moment contents
+crash_rests storage opening left c now rests contents may =
+    subst (λ (t : ℕ). left t contents) rests.since (rests.leaves (storage.moment c.vault.disk) contents (now contents may))
 
 -- a park leaves it as it was, whether it is refused or not
 pub kept_parked : {D : Type 0} (Ran : List Commit → Core D → Type 0) → RanStays Ran → (opening : Opening) (count : ℕ) (d : Desk) (old new : Core D) (task : Inst) (address : Addr) → IsKept Ran opening count d old → LooksAgain old new task address

@@ -1,8 +1,7 @@
 -- What the lock keeps when the hub is opened, and what the whole history is when it is closed.
+use Rattle.disk.specs.declared.storage.Disk.{Ghosts}
 use Rattle.std.proofs.Common.{◌≡◌, ◌∙◌, ◌<◌, ◌++◌, ℕ, true, List, [], None, refl, sym, ap, subst, arith}
 use Rattle.std.specs.List.{AllByRecursion}
-use Rattle.disk.specs.declared.side.Side.{Side}
-use Rattle.disk.specs.File.{File}
 use Rattle.terms.specs.Commits.{Commit}
 use Rattle.machine.specs.Machine.{IsPut}
 use Rattle.commit.specs.Core.{Core}
@@ -18,9 +17,9 @@ use Rattle.hub.specs.Whole.{IsWhole}
 use Rattle.hub.proofs.States.{with_nothing}
 use Rattle.passes.proofs.Gathered.{just_theirs, all_of_both}
 
-pub kept_opened : {D : Type 0} (files : D → Side → File) (moment failures refusals : D → ℕ) (Ran : List Commit → Core D → Type 0) (opening : Opening) (count passes : ℕ) (d : Desk) (c : Core D) → opening ≡ opening_of files moment failures refusals c
+pub kept_opened : {D : Type 0} (storage : Ghosts D) (Ran : List Commit → Core D → Type 0) (opening : Opening) (count passes : ℕ) (d : Desk) (c : Core D) → opening ≡ opening_of storage c
     → passes ≡ count → d ≡ record { book = record { history = []; passes = passes }; guest = None } → Ran [] c → IsKept Ran opening count d c
-kept_opened files moment failures refusals Ran opening count passes d c opened counted is ran = subst (λ (at : Desk). IsKept Ran opening count at c) (sym is) (record {
+kept_opened storage Ran opening count passes d c opened counted is ran = subst (λ (at : Desk). IsKept Ran opening count at c) (sym is) (record {
   alone = refl;
   passes = counted;
   behind = record {

@@ -1,5 +1,6 @@
 -- What the lock of a hub keeps.
 use Rattle.std.specs.Prelude.{◌≡◌, ◌≢◌, ◌⊎◌, ◌≤◌, ℕ, true, false, List, [], None}
+use Rattle.disk.specs.declared.storage.Disk.{Ghosts}
 use Rattle.disk.specs.declared.side.Side.{Side}
 use Rattle.disk.specs.File.{File}
 use Rattle.disk.specs.Time.{Contents, MayLeaveNow}
@@ -19,16 +20,16 @@ pub record Kept (D : Type 0) : Type 0 where
   pub core : Core D
 
 -- A core that was halted when the hub was opened still is, and nothing has happened on its disk: a crash leaves what one might have left then.
-pub record Rests {D : Type 0} (moment : D → ℕ) (left_at : D → ℕ → Contents → Type 0) (opening : Opening) (left : ℕ → Contents → Type 0) (c : Core D) : Type 0 where
+pub record Rests {D : Type 0} (storage : Ghosts D) (opening : Opening) (left : ℕ → Contents → Type 0) (c : Core D) : Type 0 where
   pub halted : is_halted c ≡ true
-  pub since : moment c.vault.disk ≡ opening.moment
-  pub leaves : (t : ℕ) (contents : Contents) → left_at c.vault.disk t contents → left t contents
+  pub since : storage.moment c.vault.disk ≡ opening.moment
+  pub leaves : (t : ℕ) (contents : Contents) → storage.left_at c.vault.disk t contents → left t contents
 
 -- How the commits came. In a hub that has no pass of the environment, on a core that was not halted, all of them are one run. On a core that was
 -- halted there are none.
-pub record HasRun {D : Type 0} (moment : D → ℕ) (left_at : D → ℕ → Contents → Type 0) (failures refusals : D → ℕ) (honest : Type 0) (opening : Opening) (left : ℕ → Contents → Type 0) (envs : ℕ) (made : List Commit) (c : Core D) : Type 0 where
-  pub run : envs ≡ 0 → opening.halted ≡ false → RunsSince moment left_at failures refusals honest (begun_with opening) left c made
-  pub rests : opening.halted ≡ true → (made ≡ []) × Rests moment left_at opening left c
+pub record HasRun {D : Type 0} (storage : Ghosts D) (opening : Opening) (left : ℕ → Contents → Type 0) (envs : ℕ) (made : List Commit) (c : Core D) : Type 0 where
+  pub run : envs ≡ 0 → opening.halted ≡ false → RunsSince storage (begun_with opening) left c made
+  pub rests : opening.halted ≡ true → (made ≡ []) × Rests storage opening left c
 
 -- The keeper is alone, and has the book of all passes. The core has the state after the history, which is legal; the journal ends after its records, so
 -- it has at least as many bytes as the history has events. If a turnover halted the core, that was before the hub was opened. `Ran` is what is known of how

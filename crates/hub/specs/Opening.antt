@@ -1,7 +1,6 @@
 -- What a core has when a hub is opened on it, and the state after commits from there.
+use Rattle.disk.specs.declared.storage.Disk.{Ghosts}
 use Rattle.std.specs.Prelude.{◌≡◌, ◌+◌, ℕ, true, List, [], ◌∷◌}
-use Rattle.disk.specs.declared.side.Side.{Side}
-use Rattle.disk.specs.File.{File}
 use Rattle.terms.specs.declared.event.Event.{Event}
 use Rattle.terms.specs.Commits.{Commit, events_of}
 use Rattle.terms.specs.Commits as of_commits
@@ -15,8 +14,8 @@ use Rattle.vault.specs.Opened.{contents_of}
 use Rattle.passes.specs.Opening.{Opening}
 
 -- what a core has when a hub is opened on it
-abbrev pub opening_of : {D : Type 0} → (D → Side → File) → (D → ℕ) → (failures refusals : D → ℕ) → Core D → Opening
-opening_of files moment failures refusals c = record {
+abbrev pub opening_of : {D : Type 0} → Ghosts D → Core D → Opening
+opening_of storage c = record {
   graph = core.graph c;
   facts = core.facts c;
   environment = core.environment c;
@@ -26,10 +25,10 @@ opening_of files moment failures refusals c = record {
   end = c.vault.journal.end;
   halted = core.is_halted c;
   in_doubt = c.in_doubt;
-  moment = moment c.vault.disk;
-  failures = failures c.vault.disk;
-  refusals = refusals c.vault.disk;
-  contents = contents_of (files c.vault.disk);
+  moment = storage.moment c.vault.disk;
+  failures = storage.failures c.vault.disk;
+  refusals = storage.refusals c.vault.disk;
+  contents = contents_of (storage.files c.vault.disk);
 }
 
 -- the beginning of a run from there

@@ -1,8 +1,7 @@
 -- A hub when it is opened, and when it is closed.
 use Rattle.std.specs.Prelude.{◌≡◌, ◌↔◌, ◌+◌, ◌<◌, ℕ, true, false, List, ◌++◌}
 use Rattle.std.specs.List.{AllByRecursion}
-use Rattle.disk.specs.declared.side.Side.{Side}
-use Rattle.disk.specs.File.{File}
+use Rattle.disk.specs.declared.storage.Disk.{Ghosts}
 use Rattle.disk.specs.Time.{Contents}
 use Rattle.terms.specs.Commits.{Commit}
 use Rattle.machine.specs.Machine.{IsPut}
@@ -34,12 +33,12 @@ pub record IsWhole {D : Type 0} (Ran : List Commit → Core D → Type 0) (openi
 
 -- The names of a hub fit this blank and this core: they have the blank's words and counts of passes, what the core has when the hub is opened, and
 -- for each moment what a crash may leave, as the disk says then.
-pub record IsNamedFor {D : Type 0} (files : D → Side → File) (moment : D → ℕ) (left_at : D → ℕ → Contents → Type 0) (failures refusals : D → ℕ) (table : TableId) (passes envs : ℕ) (opening : Opening) (left : ℕ → Contents → Type 0) (blank : Blank) (c : Core D) : Type 0 where
+pub record IsNamedFor {D : Type 0} (storage : Ghosts D) (table : TableId) (passes envs : ℕ) (opening : Opening) (left : ℕ → Contents → Type 0) (blank : Blank) (c : Core D) : Type 0 where
   pub words : table ≡ blank.table
   pub passes_are : passes ≡ blank.envs + blank.workers
   pub envs_are : envs ≡ blank.envs
-  pub opening_is : opening ≡ opening_of files moment failures refusals c
-  pub left_is : (t : ℕ) (contents : Contents) → left t contents ↔ left_at c.vault.disk t contents
+  pub opening_is : opening ≡ opening_of storage c
+  pub left_is : (t : ℕ) (contents : Contents) → left t contents ↔ storage.left_at c.vault.disk t contents
 
 -- Why a hub with `count` passes is not closed with these: one is missing; or, for `TaskOut`, none is.
 abbrev pub WhyNotClosed : ℕ → List Known → CloseError → Type 0

@@ -65,9 +65,9 @@ fn put_both<J: Naming + Send + Sync, D: Disk + Drop + Send, R: Threads + Wait + 
     one: (Addr, i64),
     two: (Addr, i64),
 ) -> Result<Both<D>, NonePut<D>>
-    requires named { IsNamedFor D.files D.moment D.left_at D.failures D.refusals J.table J.passes J.envs J.opening J.left blank core }
+    requires named { IsNamedFor D.Disk J.table J.passes J.envs J.opening J.left blank core }
     requires passes { (blank.envs ≡ 2) × (blank.workers ≡ 0) }
-    ensures ok { IfOk result (λ both. BothPut (opening_of D.files D.moment D.failures D.refusals core) both.core one two both.one both.two) }
+    ensures ok { IfOk result (λ both. BothPut (opening_of D.Disk core) both.core one two both.one both.two) }
     ensures idle { IfOk result (λ both. NoneRuns both.core) }
     ensures err { IfErr result (λ none. (none.core ≡ core) × (none.error ≡ NoMemory)) }
 {
@@ -113,7 +113,7 @@ pub fn put_two<D: Disk + Drop + Send, R: Threads + Wait + Sync>(
     one: (Addr, i64),
     two: (Addr, i64),
 ) -> Result<Both<D>, NonePut<D>>
-    ensures ok { IfOk result (λ both. BothPut (opening_of D.files D.moment D.failures D.refusals core) both.core one two both.one both.two) }
+    ensures ok { IfOk result (λ both. BothPut (opening_of D.Disk core) both.core one two both.one both.two) }
     ensures idle { IfOk result (λ both. NoneRuns both.core × NoneRuns core) }
     ensures err { IfErr result (λ none. none.core ≡ core) }
     ensures cause { IfErr result (λ none. (none.error ≡ TaskOut) ↔ (NoneRuns core → ⊥)) }

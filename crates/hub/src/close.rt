@@ -51,7 +51,7 @@ impl<J: Naming, D: Disk> NotClosed<J, D> {
     // Tries to close the hub again.
     fn again(self) -> Result<Core<D>, NotClosed<J, D>>
         ensures all { OnOk result ((number : ℕ) → number < J.passes → has_number number (self.envs.items ++ self.workers.items) ≡ true) }
-        ensures whole { IfOk result (λ core. (history : List Made) × IsWhole (HasRun D.moment D.left_at D.failures D.refusals (IsTrue D.is_honest) J.opening J.left J.envs) J.opening self.envs.items self.workers.items core history) }
+        ensures whole { IfOk result (λ core. (history : List Made) × IsWhole (HasRun D.Disk J.opening J.left J.envs) J.opening self.envs.items self.workers.items core history) }
         ensures idle { IfOk result NoneRuns }
         ensures err { IfErr result (λ again. (again.envs.items ≡ self.envs.items) × (again.workers.items ≡ self.workers.items)) }
     {
@@ -82,7 +82,7 @@ impl<J: Naming, D: Disk> Kept<J, D> {
     ) -> Core<D>
         requires { (number : ℕ) → number < J.passes → has_number number (envs.items ++ workers.items) ≡ true }
         ensures core { result ≡ self.core }
-        ensures whole { IsWhole (HasRun D.moment D.left_at D.failures D.refusals (IsTrue D.is_honest) J.opening J.left J.envs) J.opening envs.items workers.items result self.history }
+        ensures whole { IsWhole (HasRun D.Disk J.opening J.left J.envs) J.opening envs.items workers.items result self.history }
     {
         let (core, mut desk) = self.into_parts();
         board.look(&mut desk);
@@ -103,7 +103,7 @@ impl<J: Naming, D: Disk> Hub<J, D> {
         workers: Vec<WorkPass<J>>,
     ) -> Result<Core<D>, NotClosed<J, D>>
         ensures all { OnOk result ((number : ℕ) → number < J.passes → has_number number (envs.items ++ workers.items) ≡ true) }
-        ensures whole { IfOk result (λ core. (history : List Made) × IsWhole (HasRun D.moment D.left_at D.failures D.refusals (IsTrue D.is_honest) J.opening J.left J.envs) J.opening envs.items workers.items core history) }
+        ensures whole { IfOk result (λ core. (history : List Made) × IsWhole (HasRun D.Disk J.opening J.left J.envs) J.opening envs.items workers.items core history) }
         ensures idle { IfOk result NoneRuns }
         ensures err { IfErr result (λ not_closed. (not_closed.envs.items ≡ envs.items) × (not_closed.workers.items ≡ workers.items)) }
         ensures cause { IfErr result (λ not_closed. WhyNotClosed J.passes (envs.items ++ workers.items) not_closed.error) }
@@ -144,7 +144,7 @@ impl<J: Naming, D: Disk> Hub<J, D> {
         workers: Vec<WorkPass<J>>,
     ) -> Core<D>
         ensures all { (number : ℕ) → number < J.passes → has_number number (envs.items ++ workers.items) ≡ true }
-        ensures whole { (history : List Made) × IsWhole (HasRun D.moment D.left_at D.failures D.refusals (IsTrue D.is_honest) J.opening J.left J.envs) J.opening envs.items workers.items result history }
+        ensures whole { (history : List Made) × IsWhole (HasRun D.Disk J.opening J.left J.envs) J.opening envs.items workers.items result history }
         ensures idle { NoneRuns result }
     {
         let mut closed = self.close(envs, workers);

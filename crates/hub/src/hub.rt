@@ -298,7 +298,7 @@ impl<J: Naming, D: Disk> Hub<J, D> {
         ensures err { OnErr result (AddsNothing pass.old pass.new) }
         ensures refused { OnBatch result (λ back. back ≡ batch.entry) (λ answer. IfErr answer (RefusesTogether J.opening pass.new (ends_said batch.entry))) }
     {
-        self.visit(rt).finish_all(pass, batch, &[])
+        self.visit(rt).finish_all(pass, batch)
     }
 
     /// Whether an instance runs, or may be claimed. No clause says which it returns.

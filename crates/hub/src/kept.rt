@@ -50,7 +50,7 @@ impl<J: Naming, D: Disk> Model for Kept<J, D> {
 
     ghost view = { λ k. record { history = k.desk.book.history; core = k.core } };
 
-    ghost invariant = { λ k. IsKept (HasRun D.moment D.left_at D.failures D.refusals (IsTrue D.is_honest) J.opening J.left J.envs) J.opening J.passes k.desk k.core };
+    ghost invariant = { λ k. IsKept (HasRun D.Disk J.opening J.left J.envs) J.opening J.passes k.desk k.core };
 }
 
 impl<J: Naming, D: Disk> Kept<J, D> {
@@ -82,7 +82,7 @@ impl<J: Naming, D: Disk> Kept<J, D> {
     pub(crate) fn into_parts(self) -> (Core<D>, Desk<J>)
         ensures core { result.0 ≡ self.core }
         ensures book { result.1.book.history ≡ self.history }
-        ensures kept { IsKept (HasRun D.moment D.left_at D.failures D.refusals (IsTrue D.is_honest) J.opening J.left J.envs) J.opening J.passes result.1 result.0 }
+        ensures kept { IsKept (HasRun D.Disk J.opening J.left J.envs) J.opening J.passes result.1 result.0 }
     {
         let Kept {
             core,

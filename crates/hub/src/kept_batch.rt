@@ -26,7 +26,6 @@ impl<J: Naming, D: Disk> Kept<J, D> {
         board: &Board<J>,
         pass: &mut WorkPass<J>,
         batch: Batch<'a>,
-        ahead: &[u8],
     ) -> Result<Ended, BatchError<'a>>
         requires { HaveOutcomes J.opening.graph (facts_behind J.opening pass.old.seen) batch.tasks batch.outcomes }
         ensures core { OnBatch result (IsForeignBatch self.old self.new batch.entry) (λ answer. AreMade self.old batch.entry.tasks (EndsAll D.Disk self.old.core self.new.core batch.entry.tasks (ends_said batch.entry) answer)) }
@@ -48,7 +47,7 @@ impl<J: Naming, D: Disk> Kept<J, D> {
         // What is known of every batch: it has an instance, so an end comes.
         batch.len();
         let said = Snapshot::of(&batch);
-        let ended = match self.core.finish_all(batch, ahead) {
+        let ended = match self.core.finish_all(batch) {
             Ok(ended) => ended,
             Err(error) => return Err(BatchError::Refused(error)),
         };

@@ -41,7 +41,7 @@ pub type Opened<J, D> = (Hub<J, D>, Vec<EnvPass<J>>, Vec<WorkPass<J>>);
 impl<J: Naming, D: Disk> Hub<J, D> {
     /// Opens a hub on a core, with as many passes as the blank says.
     pub fn open(alloc: Global, core: Core<D>, blank: Blank) -> Result<Opened<J, D>, NotOpened<D>>
-        requires { IsNamedFor D.files D.moment D.left_at D.failures D.refusals J.table J.passes J.envs J.opening J.left blank core }
+        requires { IsNamedFor D.Disk J.table J.passes J.envs J.opening J.left blank core }
         ensures ok { IfOk result (λ opened. (opened.1.items ≡ new_passes 0 blank.envs) × (opened.2.items ≡ new_passes blank.envs blank.workers)) }
         ensures err { IfErr result (λ not_opened. (not_opened.core ≡ core) × (not_opened.blank ≡ blank)) }
     {

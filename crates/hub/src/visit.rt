@@ -30,13 +30,11 @@ impl<'h, J: Naming, D: Disk> Visit<'h, J, D> {
     ghost use Rattle.hub.specs.Replies.{AddsNothing, Sees};
     ghost use Rattle.hub.specs.Tasks.{OnTask};
 
-    /// As the hub's `finish_all`. Behind the record it may lay `ahead`, which is what `Batch::spell_ahead` gives of the outcomes that are to be committed next:
-    /// if nothing comes between, their commit takes one sync in place of two.
+    /// As the hub's `finish_all`.
     pub fn finish_all<'a>(
         &mut self,
         pass: &mut WorkPass<J>,
         batch: Batch<'a>,
-        ahead: &[u8],
     ) -> Result<Ended, BatchError<'a>>
         requires { HaveOutcomes J.opening.graph (facts_behind J.opening pass.old.seen) batch.tasks batch.outcomes }
         ensures seen { Sees J.opening pass.old pass.new }
@@ -44,7 +42,7 @@ impl<'h, J: Naming, D: Disk> Visit<'h, J, D> {
         ensures err { OnErr result (AddsNothing pass.old pass.new) }
         ensures refused { OnBatch result (λ back. back ≡ batch.entry) (λ answer. IfErr answer (RefusesTogether J.opening pass.new (ends_said batch.entry))) }
     {
-        let answer = self.kept.finish_all(&self.hub.board, pass, batch, ahead);
+        let answer = self.kept.finish_all(&self.hub.board, pass, batch);
         self.hub.glance.note_batch();
         answer
     }

@@ -1,12 +1,11 @@
 -- What each call makes of the commit order, and what a crash leaves at each moment of it.
+use Rattle.disk.specs.Storage.{Errs, Leaves}
 use Rattle.disk.specs.declared.storage.Disk.{Ghosts}
 use Rattle.std.proofs.Common.{◌≡◌, ◌∙◌, ◌⊎◌, ◌↔◌, ap, sym, refl, subst, inl, inr, ℕ, Bool, true, false, List, [], ◌∷◌, ◌++◌, Result, Ok, Err, OnErr, IsTrue}
 use Rattle.std.proofs.lemmas.Bool.{false≢true}
 use Rattle.std.proofs.lemmas.List.{append-nil}
-use Rattle.disk.specs.declared.side.Side.{Side}
-use Rattle.disk.specs.File.{File}
 use Rattle.disk.specs.Moments.{begun, weakened}
-use Rattle.disk.specs.Time.{Contents, MayLeaveNow, LeavesOnly, HasErred}
+use Rattle.disk.specs.Time.{Contents, MayLeaveNow}
 use Rattle.terms.specs.declared.event.Event.{Event}
 use Rattle.terms.specs.Commits.{Commit, events_of, facts_behind, environment_behind}
 use Rattle.terms.specs.Facts.{Fact, event_facts, environment_facts}
@@ -30,7 +29,7 @@ use Rattle.commit.proofs.Lists.{environment_joined, facts_joined}
 use Rattle.commit.proofs.Running.{legal_in_doubt}
 use Rattle.commit.proofs.Taken.{at_end}
 use Rattle.moves.specs.Order.{HaltedBy, History}
-use Rattle.moves.specs.There.{Has, Leaves, MayStand}
+use Rattle.moves.specs.There.{Has, LeavesThere, MayStand}
 use Rattle.moves.proofs.Kept.{stayed}
 use Rattle.moves.proofs.Known.{IsLegal, all, carried, given, legal_after, more_legal, prefix_legal, stands_now}
 
@@ -44,42 +43,42 @@ with_doubt h commit = record { made = h.made; doubt = commit ∷ [] }
 module _
     {D : Type 0} (storage : Ghosts D) (on : (IsTrue storage.is_honest)) (both : AmongBoth)
     (now : (disk : D) (contents : Contents) → storage.left_at disk (storage.moment disk) contents ↔ MayLeaveNow (storage.files disk) contents) (reads : (disk : D) → MayLeaveNow (storage.files disk) (contents_of (storage.files disk)))
-    (held : HeldLeaves storage.files storage.moment storage.left_at) (appends : AppendLeaves storage.files storage.moment storage.left_at) (g : Graph)
+    (held : HeldLeaves storage) (appends : AppendLeaves storage) (g : Graph)
   where
     -- what is known while a core is open
     pub record Stood (h : History) (c : Core D) : Type 0 where
       pub has : Has g h c
-      pub leaves : Leaves storage.files g h c.vault.disk
-      pub keeps : Keeps storage.files (IsTrue storage.is_honest) c
+      pub leaves : LeavesThere storage.files g h c.vault.disk
+      pub keeps : Keeps storage c
 
-    -- what a crash leaves at each storage.moment of a call
+    -- what a crash leaves at each moment of a call
     abbrev pub LeavesAt : History → (old new : D) → Type 0
-    LeavesAt h old new = LeavesOnly storage.moment storage.left_at old new (λ contents. MayStand g h contents × HasGates contents)
+    LeavesAt h old new = Leaves storage old new (λ contents. MayStand g h contents × HasGates contents)
 
-    pub both_hold : (old new : D) (P Q : Contents → Type 0) → LeavesOnly storage.moment storage.left_at old new P → LeavesOnly storage.moment storage.left_at old new Q → LeavesOnly storage.moment storage.left_at old new (λ c. P c × Q c)
+    pub both_hold : (old new : D) (P Q : Contents → Type 0) → Leaves storage old new P → Leaves storage old new Q → Leaves storage old new (λ c. P c × Q c)
     both_hold old new P Q p q = record { later = p.later; each = λ t c from to left. (p.each t c from to left, q.each t c from to left); stays = p.stays }
 
-    pub gated : (h : History) (disk : D) → Leaves storage.files g h disk → HasGates (contents_of (storage.files disk))
+    pub gated : (h : History) (disk : D) → LeavesThere storage.files g h disk → HasGates (contents_of (storage.files disk))
     gated h disk leaves = (leaves (contents_of (storage.files disk)) (reads disk)).1
 
     -- what is left at the end of a call
-    pub left_at_end : (h : History) (old new : D) → LeavesAt h old new → Leaves storage.files g h new
-    left_at_end h old new leaving contents may = at_end storage.files storage.moment storage.left_at now old new (λ c. MayStand g h c × HasGates c) leaving contents may
+    pub left_at_end : (h : History) (old new : D) → LeavesAt h old new → LeavesThere storage.files g h new
+    left_at_end h old new leaving contents may = at_end storage now old new (λ c. MayStand g h c × HasGates c) leaving contents may
 
-    pub rest_leaves : (h : History) (disk : D) → Leaves storage.files g h disk → LeavesAt h disk disk
+    pub rest_leaves : (h : History) (disk : D) → LeavesThere storage.files g h disk → LeavesAt h disk disk
     rest_leaves h disk leaves = begun storage.moment storage.left_at disk (λ contents. MayStand g h contents × HasGates contents) (λ contents left. leaves contents ((now disk contents).0 left))
 
-    -- a core that is not halted has storage.files that stand for what was made
-    pub held_now : (h : History) (c : Core D) → Has g h c → Keeps storage.files (IsTrue storage.is_honest) c → is_halted c ≡ false → ((contents : Contents) → MayLeaveNow (storage.files c.vault.disk) contents → HasGates contents) → Leaves storage.files g h c.vault.disk
+    -- a core that is not halted has files that stand for what was made
+    pub held_now : (h : History) (c : Core D) → Has g h c → Keeps storage c → is_halted c ≡ false → ((contents : Contents) → MayLeaveNow (storage.files c.vault.disk) contents → HasGates contents) → LeavesThere storage.files g h c.vault.disk
     held_now h c has keeps goes gates contents may = (
       stands_now g h c has h.doubt contents
-          (at_end storage.files storage.moment storage.left_at now c.vault.disk c.vault.disk (λ k. Stands k (graph c) (environment c) (facts c)) (held c.vault (graph c) (environment c) (facts c) ((keeps.kept on).holds goes)) contents may),
+          (at_end storage now c.vault.disk c.vault.disk (λ k. Stands k (graph c) (environment c) (facts c)) (held c.vault (graph c) (environment c) (facts c) ((keeps.kept on).holds goes)) contents may),
       gates contents may,
     )
 
     -- ---- nothing has changed
 
-    pub rests : (h : History) (old new : Core D) → Stood h old → Keeps storage.files (IsTrue storage.is_honest) new → KeepsStore old new → Stood h new × LeavesAt h old.vault.disk new.vault.disk
+    pub rests : (h : History) (old new : Core D) → Stood h old → Keeps storage new → KeepsStore old new → Stood h new × LeavesAt h old.vault.disk new.vault.disk
     rests h old new stood keeps same = (
       record {
         has = record {
@@ -89,14 +88,14 @@ module _
           doubt = stood.has.doubt ∙ ap in_one (sym same.in_doubt);
           settled = λ goes. stood.has.settled (sym same.vault.halted ∙ goes);
         };
-        leaves = subst (λ (d : D). Leaves storage.files g h d) (sym same.vault.disk) stood.leaves;
+        leaves = subst (λ (d : D). LeavesThere storage.files g h d) (sym same.vault.disk) stood.leaves;
         keeps = keeps;
       },
       subst (λ (d : D). LeavesAt h old.vault.disk d) (sym same.vault.disk) (rest_leaves h old.vault.disk stood.leaves),
     )
 
     -- an error that did not halt the core
-    pub unchanged : {T : Type 0} (h : History) (old new : Core D) (error : CoreError) → Stood h old → Keeps storage.files (IsTrue storage.is_honest) new → Stays old new → Halts {T = T} storage.failures storage.refusals old new (Err error) → is_halted new ≡ is_halted old
+    pub unchanged : {T : Type 0} (h : History) (old new : Core D) (error : CoreError) → Stood h old → Keeps storage new → Stays old new → Halts {T = T} storage old new (Err error) → is_halted new ≡ is_halted old
         → Stood h new × LeavesAt h old.vault.disk new.vault.disk
     unchanged h old new error stood keeps stays halts halted =
         let same = halts.same halted in
@@ -109,11 +108,11 @@ module _
     Comes h commit old new (Ok value) = (is_halted new ≡ false) × Stood (with_commit h commit) new × IsLegal g (with_commit h commit)
     Comes h commit old new (Err error) = ((HaltedBy old new → ⊥) × Stood h new) ⊎ (HaltedBy old new × (h.doubt ≡ []) × Stood (with_doubt h commit) new × IsLegal g (with_doubt h commit))
 
-    -- what a crash leaves at each storage.moment of it
+    -- what a crash leaves at each moment of it
     abbrev pub Leaving : History → Commit → Core D → Core D → Type 0
     Leaving h commit old new = LeavesAt h old.vault.disk new.vault.disk ⊎ ((is_halted old ≡ false) × (h.doubt ≡ []) × IsLegal g (with_doubt h commit) × LeavesAt (with_doubt h commit) old.vault.disk new.vault.disk)
 
-    module _ (h : History) (old new : Core D) (event : Event) (why : Refusal → Type 0) (stood : Stood h old) (keeps : Keeps storage.files (IsTrue storage.is_honest) new) (legal : IsLegal g h) where
+    module _ (h : History) (old new : Core D) (event : Event) (why : Refusal → Type 0) (stood : Stood h old) (keeps : Keeps storage new) (legal : IsLegal g h) where
       abbrev commit : Commit
       commit = event ∷ []
 
@@ -130,15 +129,15 @@ module _
           (doubt_legal one)
 
       -- what a crash leaves of a core that was not halted
-      cut_short : {T : Type 0} (result : Result T CoreError) → Commits storage.files storage.moment storage.left_at (IsTrue storage.is_honest) old new why event result → is_halted old ≡ false → LeavesAt (with_doubt h commit) old.vault.disk new.vault.disk
+      cut_short : {T : Type 0} (result : Result T CoreError) → Commits storage old new why event result → is_halted old ≡ false → LeavesAt (with_doubt h commit) old.vault.disk new.vault.disk
       cut_short result it goes =
           let moments = it.moments on goes in
           both_hold old.vault.disk new.vault.disk (MayStand g (with_doubt h commit)) HasGates
           (appends old.vault new.vault g nothing nothing h.made commit
-          (carried g h old stood.has (λ k E X. LeavesOnly storage.moment storage.left_at old.vault.disk new.vault.disk (StandsBeforeOrAfter k E X commit)) moments.facts))
+          (carried g h old stood.has (λ k E X. Leaves storage old.vault.disk new.vault.disk (StandsBeforeOrAfter k E X commit)) moments.facts))
           (moments.gates (gated h old.vault.disk stood.leaves))
 
-      came : {T : Type 0} (value : T) → Commits storage.files storage.moment storage.left_at (IsTrue storage.is_honest) old new why event (Ok value) → Stood (with_commit h commit) new × IsLegal g (with_commit h commit)
+      came : {T : Type 0} (value : T) → Commits storage old new why event (Ok value) → Stood (with_commit h commit) new × IsLegal g (with_commit h commit)
       came {T} value it =
           let takes = it.takes in
           let goes = takes.working.0 in
@@ -166,10 +165,10 @@ module _
           )
 
       -- an error that halted the core leaves the commit in doubt
-      halted_by : {T : Type 0} (error : CoreError) → Commits {T = T} storage.files storage.moment storage.left_at (IsTrue storage.is_honest) old new why event (Err error) → Stays old new → Halts {T = T} storage.failures storage.refusals old new (Err error) → is_halted old ≡ false → is_halted new ≡ true
+      halted_by : {T : Type 0} (error : CoreError) → Commits {T = T} storage old new why event (Err error) → Stays old new → Halts {T = T} storage old new (Err error) → is_halted old ≡ false → is_halted new ≡ true
           → (h.doubt ≡ []) × Stood (with_doubt h commit) new × IsLegal g (with_doubt h commit)
       halted_by {T} error it stays halts goes stops =
-          let erred : HasErred storage.failures storage.refusals old.vault.disk new.vault.disk = elim (halts.halts.0 stops) [ inl is ↦ absurd (false≢true (sym goes ∙ is)) | inr here ↦ here ] in
+          let erred : Errs storage old.vault.disk new.vault.disk = elim (halts.halts.0 stops) [ inl is ↦ absurd (false≢true (sym goes ∙ is)) | inr here ↦ here ] in
           let one = legal_in_doubt storage {T = T} old new why event error it.refused halts erred in (
             stood.has.settled goes,
             record {
@@ -186,7 +185,7 @@ module _
             doubt_legal (one, tt),
           )
 
-      pub comes : {T : Type 0} (result : Result T CoreError) → Commits storage.files storage.moment storage.left_at (IsTrue storage.is_honest) old new why event result → OnErr result (Stays old new) → Halts storage.failures storage.refusals old new result → Comes h commit old new result
+      pub comes : {T : Type 0} (result : Result T CoreError) → Commits storage old new why event result → OnErr result (Stays old new) → Halts storage old new result → Comes h commit old new result
       comes {T} (Ok value) it stays halts = let done = came {T = T} value it in (it.takes.working.1, done.0, done.1)
       comes {T} (Err error) it stays halts = before (is_halted old) refl
         where
@@ -198,7 +197,7 @@ module _
               after false works = inl (λ halted. false≢true (sym works ∙ halted.1), (unchanged {T = T} h old new error stood keeps stays halts (works ∙ sym goes)).0)
               after true stops = let it_is = halted_by {T = T} error it stays halts goes stops in inr ((goes, stops), it_is.0, it_is.1, it_is.2)
 
-      pub leaving : {T : Type 0} (result : Result T CoreError) → Commits storage.files storage.moment storage.left_at (IsTrue storage.is_honest) old new why event result → OnErr result (Stays old new) → Halts storage.failures storage.refusals old new result → Leaving h commit old new
+      pub leaving : {T : Type 0} (result : Result T CoreError) → Commits storage old new why event result → OnErr result (Stays old new) → Halts storage old new result → Leaving h commit old new
       leaving {T} (Ok value) it stays halts =
           let goes = it.takes.working.0 in
           inr (goes, stood.has.settled goes, doubt_legal (it.takes.legal, tt), cut_short (Ok value) it goes)
@@ -214,7 +213,7 @@ module _
 
     -- ---- a turnover
 
-    module _ (h : History) (old new : Core D) (stood : Stood h old) (keeps : Keeps storage.files (IsTrue storage.is_honest) new) where
+    module _ (h : History) (old new : Core D) (stood : Stood h old) (keeps : Keeps storage new) where
       turning : (result : Result ℕ CoreError) → TurnsAs storage old new result → is_halted old ≡ false → LeavesAt h old.vault.disk new.vault.disk
       turning result it goes =
           let gates = gated h old.vault.disk stood.leaves in

@@ -1,11 +1,10 @@
 -- What commits that come one after another make of the commit order, and what a crash leaves at each moment of them.
+use Rattle.disk.specs.Storage.{Leaves}
 use Rattle.disk.specs.declared.storage.Disk.{Ghosts}
 use Rattle.std.proofs.Common.{◌≡◌, ◌∙◌, ◌↔◌, ap, refl, sym, subst, ℕ, false, List, [], ◌++◌, IsTrue}
 use Rattle.std.proofs.lemmas.List.{append-nil, append_assoc}
-use Rattle.disk.specs.declared.side.Side.{Side}
-use Rattle.disk.specs.File.{File}
 use Rattle.disk.specs.Moments.{weakened}
-use Rattle.disk.specs.Time.{Contents, MayLeaveNow, LeavesOnly}
+use Rattle.disk.specs.Time.{Contents, MayLeaveNow}
 use Rattle.terms.specs.declared.event.Event.{Event}
 use Rattle.terms.specs.Commits.{Commit, events_of, facts_behind, environment_behind}
 use Rattle.terms.specs.Sets.{AmongBoth, Facts}
@@ -62,9 +61,9 @@ from_start both g made first later contents it =
 module _
     {D : Type 0} (storage : Ghosts D) (on : (IsTrue storage.is_honest)) (both : AmongBoth)
     (now : (disk : D) (contents : Contents) → storage.left_at disk (storage.moment disk) contents ↔ MayLeaveNow (storage.files disk) contents) (reads : (disk : D) → MayLeaveNow (storage.files disk) (contents_of (storage.files disk)))
-    (held : HeldLeaves storage.files storage.moment storage.left_at) (appends : AppendLeaves storage.files storage.moment storage.left_at) (g : Graph)
+    (held : HeldLeaves storage) (appends : AppendLeaves storage) (g : Graph)
     (h : History) (old new : Core D) (commits : List Commit)
-    (stood : Stood storage on both now reads held appends g h old) (keeps : Keeps storage.files (IsTrue storage.is_honest) new) (legal : IsLegal g h)
+    (stood : Stood storage on both now reads held appends g h old) (keeps : Keeps storage new) (legal : IsLegal g h)
     (went : Went storage old new commits)
   where
     abbrev after : History
@@ -83,12 +82,12 @@ module _
     pub part_legal : IsLegal g in_part
     part_legal = subst (λ (list : List Event). AreLegalFrom g nothing list) (sym (events_after h.made commits new.in_doubt)) both_legal
 
-    -- at each storage.moment a crash leaves a prefix of the commits
+    -- at each moment a crash leaves a prefix of the commits
     pub leaving : LeavesAt storage on both now reads held appends g in_part old.vault.disk new.vault.disk
     leaving =
         let pending = commits ++ in_one new.in_doubt in
         let crashes =
-        carried g h old stood.has (λ k E X. LeavesOnly storage.moment storage.left_at old.vault.disk new.vault.disk (StandsForBeginning k E X [] pending)) (went.crashes on)
+        carried g h old stood.has (λ k E X. Leaves storage old.vault.disk new.vault.disk (StandsForBeginning k E X [] pending)) (went.crashes on)
         in
         both_hold storage on both now reads held appends g old.vault.disk new.vault.disk (MayStand g in_part) HasGates
         (weakened storage.moment storage.left_at old.vault.disk new.vault.disk (StandsForBeginning g (environment_behind nothing h.made) (facts_behind nothing h.made) [] pending) (MayStand g in_part) crashes

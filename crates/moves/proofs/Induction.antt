@@ -3,8 +3,6 @@ use Rattle.disk.specs.declared.storage.Disk.{Ghosts}
 use Rattle.std.proofs.Common.{◌≡◌, ◌∙◌, ◌⊎◌, ◌↔◌, ◌<◌, ap, sym, refl, subst, inl, inr, ℕ, Bool, true, false, List, [], ◌∷◌, ◌++◌, length, Result, Ok, Err, OnErr, arith, IsTrue}
 use Rattle.std.proofs.lemmas.Bool.{false≢true}
 use Rattle.std.proofs.lemmas.List.{append-nil}
-use Rattle.disk.specs.declared.side.Side.{Side}
-use Rattle.disk.specs.File.{File}
 use Rattle.disk.specs.Time.{Contents, MayLeaveNow}
 use Rattle.terms.specs.declared.name.Inst.{Inst}
 use Rattle.terms.specs.declared.event.Event.{Event}
@@ -33,7 +31,7 @@ use Rattle.commit.proofs.Ended.{end_is_told}
 use Rattle.moves.specs.Call.{Call, Does, Tries, acknowledged, puts_item, puts_tag, claims, parks, releases, wakes, finishes, finishes_all, turns, allows}
 use Rattle.moves.specs.Move.{Leads, LeadsAll, Move, Place, at_core, at_disk, whole, cut, goes_on, going_cut, crashes, gives_back, crashes_again, opens, opening_cut}
 use Rattle.moves.specs.Order.{Extends, ExtendsAll, HaltedBy, History, TriesNone, acknowledged_by, begun as begun_order}
-use Rattle.moves.specs.There.{IsThere, Leaves}
+use Rattle.moves.specs.There.{IsThere, LeavesThere}
 use Rattle.moves.specs.Every.{Along, ForEverySchedule, IsKnown, Means}
 use Rattle.moves.proofs.Calls.{Leaving, LeavesAt, Stood, comes, leaving, rest_leaves, rests, turned, with_commit, with_doubt}
 use Rattle.moves.proofs.Going.{after_legal, leaving as leaving_in_part, part_legal, stood_after, with_commits, with_doubts}
@@ -47,7 +45,7 @@ use Rattle.moves.proofs.Together.{came, leaving_together, tried}
 module _
     {D : Type 0} (storage : Ghosts D) (on : (IsTrue storage.is_honest)) (both : AmongBoth)
     (now : (disk : D) (contents : Contents) → storage.left_at disk (storage.moment disk) contents ↔ MayLeaveNow (storage.files disk) contents) (reads : (disk : D) → MayLeaveNow (storage.files disk) (contents_of (storage.files disk)))
-    (held : HeldLeaves storage.files storage.moment storage.left_at) (appends : AppendLeaves storage.files storage.moment storage.left_at) (one : OneStore) (g : Graph)
+    (held : HeldLeaves storage) (appends : AppendLeaves storage) (one : OneStore) (g : Graph)
   where
     abbrev StoodHere : History → Core D → Type 0
     StoodHere = Stood storage on both now reads held appends g
@@ -58,7 +56,7 @@ module _
     -- what is known at a place
     abbrev At : History → Place D → Type 0
     At h (at_core c) = StoodHere h c × IsLegal g h
-    At h (at_disk disk) = Leaves storage.files g h disk × IsLegal g h
+    At h (at_disk disk) = LeavesThere storage.files g h disk × IsLegal g h
 
     -- what a move makes of the order, and what is known then
     abbrev GoesTo : Move D → (from : Place D) → History → (to : Place D) → Type 0
@@ -90,12 +88,12 @@ module _
 
     -- ---- calls that were cut off
 
-    cut_still : (call : Call) (h : History) (old new : Core D) (disk : D) → LeavesHere h old.vault.disk new.vault.disk → IsLeft storage.files storage.moment storage.left_at old.vault.disk new.vault.disk disk → IsLegal g h
+    cut_still : (call : Call) (h : History) (old new : Core D) (disk : D) → LeavesHere h old.vault.disk new.vault.disk → IsLeft storage old.vault.disk new.vault.disk disk → IsLegal g h
         → GoesTo (cut call new) (at_core old) h (at_disk disk)
     cut_still call h old new disk leaves left legal =
         (h, inl refl, (crashed storage on both now reads held appends g h old.vault.disk new.vault.disk disk leaves left, legal))
 
-    cut_commit : (call : Call) (h : History) (commit : Commit) (old new : Core D) (disk : D) → Tries call commit → IsLegal g h → IsLeft storage.files storage.moment storage.left_at old.vault.disk new.vault.disk disk
+    cut_commit : (call : Call) (h : History) (commit : Commit) (old new : Core D) (disk : D) → Tries call commit → IsLegal g h → IsLeft storage old.vault.disk new.vault.disk disk
         → Leaving storage on both now reads held appends g h commit old new → GoesTo (cut call new) (at_core old) h (at_disk disk)
     cut_commit call h commit old new disk tries legal left (inl leaves) = cut_still call h old new disk leaves left legal
     cut_commit call h commit old new disk tries legal left (inr doubt) = (
@@ -114,7 +112,7 @@ module _
     back_of old new task (Ok value) back = tt
     back_of old new task (Err error) back = back.stays
 
-    module _ (h : History) (old new : Core D) (stood : StoodHere h old) (keeps : Keeps storage.files (IsTrue storage.is_honest) new) (legal : IsLegal g h) where
+    module _ (h : History) (old new : Core D) (stood : StoodHere h old) (keeps : Keeps storage new) (legal : IsLegal g h) where
       -- what was tried of several ends, if it was not nothing
       some_tried : (tasks : List Inst) (ends : List Event) (result : Result Ended CoreError) → (does : EndsAll storage old new tasks ends result) → 0 < length does.finishes.commit
           → (0 < length does.finishes.commit) × ((ended : Ended) × (does.finishes.commit ≡ cut_ends ended ends))
@@ -163,7 +161,7 @@ module _
       by_call (allows count result) does =
           stays_whole (allows count result) h old new refl (λ _ commit tries. tries) (rests storage on both now reads held appends g h old new stood keeps (allowed old new count result does)).0 legal
 
-      by_cut : (call : Call) (disk : D) → Does storage call old new → IsLeft storage.files storage.moment storage.left_at old.vault.disk new.vault.disk disk → GoesTo (cut call new) (at_core old) h (at_disk disk)
+      by_cut : (call : Call) (disk : D) → Does storage call old new → IsLeft storage old.vault.disk new.vault.disk disk → GoesTo (cut call new) (at_core old) h (at_disk disk)
       by_cut (puts_item address value result) disk does left =
           cut_commit (puts_item address value result) h (EnvItem address value ∷ []) old new disk refl legal left
           (leaving storage on both now reads held appends g h old new (EnvItem address value) (RefusesItem (graph old) (facts old) address) stood keeps legal result does.commits (stays_of old new result does.unchanged) does.halts)
@@ -209,7 +207,7 @@ module _
                 ),
               )
 
-      by_going_cut : (commits : List Commit) (disk : D) → GoesOn storage old new commits → IsLeft storage.files storage.moment storage.left_at old.vault.disk new.vault.disk disk → GoesTo (going_cut commits new) (at_core old) h (at_disk disk)
+      by_going_cut : (commits : List Commit) (disk : D) → GoesOn storage old new commits → IsLeft storage old.vault.disk new.vault.disk disk → GoesTo (going_cut commits new) (at_core old) h (at_disk disk)
       by_going_cut commits disk goes left = at (is_halted old) refl
         where
           at : (b : Bool) → is_halted old ≡ b → GoesTo (going_cut commits new) (at_core old) h (at_disk disk)
@@ -245,7 +243,7 @@ module _
         at.1,
       ),
     )
-    step gives_back (at_core c) (at_disk disk) h at leads = (h, refl, (subst (λ (d : D). Leaves storage.files g h d) (sym leads) at.0.leaves, at.1))
+    step gives_back (at_core c) (at_disk disk) h at leads = (h, refl, (subst (λ (d : D). LeavesThere storage.files g h d) (sym leads) at.0.leaves, at.1))
     step crashes_again (at_disk before) (at_disk disk) h at leads = (
       h,
       refl,
@@ -260,7 +258,7 @@ module _
         let next : History = record { made = h.made ++ it.0; doubt = [] } in
         (next, (it.0, it.1, it.2, refl), (subst (λ (c : Core D). StoodHere next c) (sym leads.1) it.3, it.4))
     step (opens (Err back)) (at_disk disk) (at_disk given) h at leads =
-        (h, refl, (subst (λ (d : D). Leaves storage.files g h d) (sym leads.1) (only_read storage on both now reads held appends g h disk back.disk at.0 (leads.0.only_reads on)), at.1))
+        (h, refl, (subst (λ (d : D). LeavesThere storage.files g h d) (sym leads.1) (only_read storage on both now reads held appends g h disk back.disk at.0 (leads.0.only_reads on)), at.1))
     step (opening_cut result) (at_disk before) (at_disk disk) h at leads =
         (h, refl, (cut_reading storage on both now reads held appends g h before _ disk at.0 (leads.0.only_reads on) leads.1, at.1))
     step move from to h at leads = absurd leads
@@ -320,7 +318,7 @@ module _
 module _
     {D : Type 0} (storage : Ghosts D) (on : (IsTrue storage.is_honest)) (both : AmongBoth)
     (now : (disk : D) (contents : Contents) → storage.left_at disk (storage.moment disk) contents ↔ MayLeaveNow (storage.files disk) contents) (reads : (disk : D) → MayLeaveNow (storage.files disk) (contents_of (storage.files disk)))
-    (held : HeldLeaves storage.files storage.moment storage.left_at) (appends : AppendLeaves storage.files storage.moment storage.left_at) (rest : GatesRest storage.files storage.moment storage.left_at) (one : OneStore)
+    (held : HeldLeaves storage) (appends : AppendLeaves storage) (rest : GatesRest storage) (one : OneStore)
     (as_set : LegalAsSet) (is_within : ReachedIsWithin) (meaning : ReachedIsMeaning) (stopped_or_quiet : ReachedStoppedOrQuiet) (quiet_waits : QuietWaits)
   where
     pub for_every_schedule : ForEverySchedule storage

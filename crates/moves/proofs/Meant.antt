@@ -4,9 +4,6 @@ use Rattle.std.proofs.Common.{false, ◌≡◌, ◌∙◌, ◌⊎◌, ap, sym, r
 use Rattle.std.proofs.lemmas.Bool.{false≢true}
 use Rattle.std.proofs.lemmas.List.{append_assoc}
 use Rattle.std.specs.Prelude.{is_some}
-use Rattle.disk.specs.declared.side.Side.{Side}
-use Rattle.disk.specs.File.{File}
-use Rattle.disk.specs.Time.{Contents}
 use Rattle.terms.specs.declared.name.Addr.{Addr}
 use Rattle.terms.specs.declared.name.Inst.{Inst}
 use Rattle.terms.specs.Commits.{Commit, events_of, facts_behind, environment_behind}
@@ -29,7 +26,7 @@ use Rattle.commit.specs.Core.{Core, facts, environment}
 use Rattle.commit.specs.Status.{TellsStatus}
 use Rattle.moves.specs.Every.{StandsWithin, TellsMeaning}
 use Rattle.moves.specs.Order.{History}
-use Rattle.moves.specs.There.{Has, Leaves}
+use Rattle.moves.specs.There.{Has, LeavesThere}
 use Rattle.moves.proofs.Known.{IsLegal, prefix_legal}
 
 -- a machine of which no instance is ready or runs, and which has no fault, is quiet
@@ -86,7 +83,7 @@ module _ (as_set : LegalAsSet) (is_within : ReachedIsWithin) (meaning : ReachedI
       }
 
   pub stands_within : {D : Type 0} (storage : Ghosts D)
-      → OneStore → (h : History) (disk : D) → Leaves storage.files g h disk → IsLegal g h → StandsWithin storage g disk
+      → OneStore → (h : History) (disk : D) → LeavesThere storage.files g h disk → IsLegal g h → StandsWithin storage g disk
   stands_within storage one h disk leaves legal contents other E X may stands =
       let it = (leaves contents may).0 in
       let made = h.made ++ it.made in

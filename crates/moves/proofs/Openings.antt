@@ -2,8 +2,6 @@
 use Rattle.disk.specs.declared.storage.Disk.{Ghosts}
 use Rattle.std.proofs.Common.{◌≡◌, ◌∙◌, ◌⊎◌, ◌↔◌, ap, sym, refl, subst, inl, inr, ℕ, List, [], ◌++◌, Ok, Err, IsTrue}
 use Rattle.std.proofs.lemmas.List.{append-nil, append_assoc}
-use Rattle.disk.specs.declared.side.Side.{Side}
-use Rattle.disk.specs.File.{File}
 use Rattle.disk.specs.Time.{Contents, MayLeaveNow}
 use Rattle.terms.specs.Commits.{Commit, events_of, facts_behind, environment_behind}
 use Rattle.terms.specs.Sets.{AmongBoth}
@@ -21,7 +19,7 @@ use Rattle.commit.specs.Kept.{Keeps}
 use Rattle.commit.specs.Opened.{OpensAs}
 use Rattle.commit.specs.Runs.{in_one}
 use Rattle.moves.specs.Order.{History, begun as begun_order}
-use Rattle.moves.specs.There.{Has, Leaves}
+use Rattle.moves.specs.There.{Has, LeavesThere}
 use Rattle.moves.specs.Every.{OpensOrErrs}
 use Rattle.moves.proofs.Calls.{LeavesAt, Stood, held_now}
 use Rattle.moves.proofs.Known.{IsLegal, prefix_legal}
@@ -33,7 +31,7 @@ with_found h found = record { made = h.made ++ found; doubt = [] }
 module _
     {D : Type 0} (storage : Ghosts D) (on : (IsTrue storage.is_honest)) (both : AmongBoth)
     (now : (disk : D) (contents : Contents) → storage.left_at disk (storage.moment disk) contents ↔ MayLeaveNow (storage.files disk) contents) (reads : (disk : D) → MayLeaveNow (storage.files disk) (contents_of (storage.files disk)))
-    (held : HeldLeaves storage.files storage.moment storage.left_at) (appends : AppendLeaves storage.files storage.moment storage.left_at) (g : Graph)
+    (held : HeldLeaves storage) (appends : AppendLeaves storage) (g : Graph)
   where
     abbrev StoodHere : History → Core D → Type 0
     StoodHere = Stood storage on both now reads held appends g
@@ -41,19 +39,19 @@ module _
     abbrev LeavesHere : History → D → D → Type 0
     LeavesHere = LeavesAt storage on both now reads held appends g
 
-    -- a crash at a storage.moment when a crash leaves what is known
-    pub crashed : (h : History) (old new disk : D) → LeavesHere h old new → IsLeft storage.files storage.moment storage.left_at old new disk → Leaves storage.files g h disk
+    -- a crash at a moment when a crash leaves what is known
+    pub crashed : (h : History) (old new disk : D) → LeavesHere h old new → IsLeft storage old new disk → LeavesThere storage.files g h disk
     crashed h old new disk leaving left contents may = leaving.each left.struck contents left.begun left.ended (left.crash contents may)
 
     -- calls that only read
-    pub only_read : (h : History) (disk new : D) → Leaves storage.files g h disk → OnlyReads storage.files storage.moment storage.left_at disk new → Leaves storage.files g h new
+    pub only_read : (h : History) (disk new : D) → LeavesThere storage.files g h disk → OnlyReads storage disk new → LeavesThere storage.files g h new
     only_read h disk new leaves reading contents may = leaves contents (reading.left contents may)
 
-    pub cut_reading : (h : History) (disk new left : D) → Leaves storage.files g h disk → OnlyReads storage.files storage.moment storage.left_at disk new → IsLeft storage.files storage.moment storage.left_at disk new left → Leaves storage.files g h left
+    pub cut_reading : (h : History) (disk new left : D) → LeavesThere storage.files g h disk → OnlyReads storage disk new → IsLeft storage disk new left → LeavesThere storage.files g h left
     cut_reading h disk new left leaves reading was contents may = leaves contents (reading.any_moment.each was.struck contents was.begun was.ended (was.crash contents may))
 
     -- a new store
-    pub created : GatesRest storage.files storage.moment storage.left_at → (text : List ℕ) (core : Core D) → graph core ≡ g → IsCreated storage.files (IsTrue storage.is_honest) text core → Keeps storage.files (IsTrue storage.is_honest) core → StoodHere begun_order core
+    pub created : GatesRest storage → (text : List ℕ) (core : Core D) → graph core ≡ g → IsCreated storage text core → Keeps storage core → StoodHere begun_order core
     created rest text core is is_created keeps =
         let opened = is_created.opened in
         let has : Has g begun_order core = record { graph = is; facts = is_created.facts; environment = is_created.environment; doubt = ap in_one (sym opened.in_doubt); settled = λ _. refl } in
@@ -66,7 +64,7 @@ module _
         }
 
     -- an opening that returned a core: it found a prefix of what was in doubt
-    pub opened_well : OneStore → (h : History) (disk : D) (core : Core D) → Leaves storage.files g h disk → IsLegal g h → OpensAs storage disk (Ok core) → Keeps storage.files (IsTrue storage.is_honest) core
+    pub opened_well : OneStore → (h : History) (disk : D) (core : Core D) → LeavesThere storage.files g h disk → IsLegal g h → OpensAs storage disk (Ok core) → Keeps storage core
         → (found : List Commit) × (lost : List Commit) × (h.doubt ≡ found ++ lost) × StoodHere (with_found h found) core × IsLegal g (with_found h found)
     opened_well one h disk core leaves legal opens keeps =
         let before = leaves (contents_of (storage.files disk)) (reads disk) in
@@ -100,7 +98,7 @@ module _
     errs Halted may something = absurd (may.1 refl)
     errs Exists may something = absurd (may.2 refl)
 
-    pub opens_or_errs : (h : History) (disk : D) → Leaves storage.files g h disk → OpensOrErrs storage disk
+    pub opens_or_errs : (h : History) (disk : D) → LeavesThere storage.files g h disk → OpensOrErrs storage disk
     opens_or_errs h disk leaves (Ok core) opens = tt
     opens_or_errs h disk leaves (Err refused) opens =
         errs refused.error opens.errors (λ says. (opens.tells on).nothing says _ _ _ (leaves (contents_of (storage.files disk)) (reads disk)).0.stands)

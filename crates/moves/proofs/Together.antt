@@ -3,8 +3,6 @@ use Rattle.disk.specs.declared.storage.Disk.{Ghosts}
 use Rattle.std.proofs.Common.{◌≡◌, ◌∙◌, ◌⊎◌, ◌↔◌, ◌<◌, ap, sym, refl, subst, inl, inr, ℕ, Bool, true, false, List, [], ◌∷◌, ◌++◌, length, Result, Ok, Err, arith, IsTrue}
 use Rattle.std.proofs.lemmas.Bool.{false≢true}
 use Rattle.std.proofs.lemmas.List.{append-nil}
-use Rattle.disk.specs.declared.side.Side.{Side}
-use Rattle.disk.specs.File.{File}
 use Rattle.disk.specs.Moments.{weakened}
 use Rattle.disk.specs.Time.{Contents, MayLeaveNow}
 use Rattle.terms.specs.declared.name.Inst.{Inst}
@@ -62,9 +60,9 @@ in_one_of (event ∷ events) some = refl
 module _
     {D : Type 0} (storage : Ghosts D) (on : (IsTrue storage.is_honest)) (both : AmongBoth)
     (now : (disk : D) (contents : Contents) → storage.left_at disk (storage.moment disk) contents ↔ MayLeaveNow (storage.files disk) contents) (reads : (disk : D) → MayLeaveNow (storage.files disk) (contents_of (storage.files disk)))
-    (held : HeldLeaves storage.files storage.moment storage.left_at) (appends : AppendLeaves storage.files storage.moment storage.left_at) (g : Graph)
+    (held : HeldLeaves storage) (appends : AppendLeaves storage) (g : Graph)
     (h : History) (old new : Core D) (tasks : List Inst) (ends : List Event)
-    (stood : Stood storage on both now reads held appends g h old) (keeps : Keeps storage.files (IsTrue storage.is_honest) new) (legal : IsLegal g h)
+    (stood : Stood storage on both now reads held appends g h old) (keeps : Keeps storage new) (legal : IsLegal g h)
   where
     abbrev StoodHere : History → Core D → Type 0
     StoodHere = Stood storage on both now reads held appends g

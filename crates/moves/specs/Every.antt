@@ -1,8 +1,6 @@
 -- The theorem: what holds after every list of moves of a store.
 use Rattle.disk.specs.declared.storage.Disk.{Ghosts}
 use Rattle.std.specs.Prelude.{◌≡◌, ◌⊎◌, ℕ, true, List, [], ◌∷◌, ◌++◌, Some, Result, IfErr, IsTrue}
-use Rattle.disk.specs.declared.side.Side.{Side}
-use Rattle.disk.specs.File.{File}
 use Rattle.disk.specs.Time.{Contents, MayLeaveNow}
 use Rattle.terms.specs.declared.name.Addr.{Addr}
 use Rattle.terms.specs.declared.name.Inst.{Inst}
@@ -50,7 +48,7 @@ pub record TellsMeaning {D : Type 0} (g : Graph) (c : Core D) : Type 0 where
   pub stopped : (instance : Inst) (kind : FaultKind) → TellsStatus c (Stopped instance kind) → Meaning g (environment c) (bad instance kind) × NoneIsQuiet g (environment c)
 
 module _ {D : Type 0} (storage : Ghosts D) where
-  -- whatever the storage.files stand for after a crash now, it is of this graph, and within its meaning
+  -- whatever the files stand for after a crash now, it is of this graph, and within its meaning
   abbrev pub StandsWithin : Graph → D → Type 0
   StandsWithin g disk = (contents : Contents) (other : Graph) (E X : Facts) → MayLeaveNow (storage.files disk) contents → Stands contents other E X → (other ≡ g) × IsWithin g E X
 
@@ -86,5 +84,5 @@ module _ {D : Type 0} (storage : Ghosts D) where
   -- returned `Ok`, this holds.
   abbrev pub ForEverySchedule : Type 0
   ForEverySchedule =
-      (text : List ℕ) (core : Core D) (moves : List (Move D)) (place : Place D) → IsCreated storage.files (IsTrue storage.is_honest) text core → Keeps storage.files (IsTrue storage.is_honest) core
+      (text : List ℕ) (core : Core D) (moves : List (Move D)) (place : Place D) → IsCreated storage text core → Keeps storage core
       → (leads : LeadsAll storage moves (at_core core) place) → Holds core moves place leads

@@ -1,9 +1,6 @@
 -- Every list of moves of a store: whole calls and runs, those that a crash cuts off, crashes between calls, and openings.
 use Rattle.disk.specs.declared.storage.Disk.{Ghosts}
 use Rattle.std.specs.Prelude.{◌≡◌, ℕ, List, [], ◌∷◌, Result, Ok, Err, IsTrue}
-use Rattle.disk.specs.declared.side.Side.{Side}
-use Rattle.disk.specs.File.{File}
-use Rattle.disk.specs.Time.{Contents}
 use Rattle.terms.specs.Commits.{Commit}
 use Rattle.vault.specs.declared.refused.Refused.{Refused}
 use Rattle.vault.specs.Commits.{IsLeft}
@@ -40,18 +37,18 @@ pub data Move (D : Type 0) : Type 0 where
 
 module _ {D : Type 0} (storage : Ghosts D) where
   -- The move leads from one place to the next. Each call does what its contract says, and each core keeps what a core keeps. A crash leaves a disk of
-  -- which all that a further crash may leave is what a crash at some storage.moment of the call, or between calls, may have left.
+  -- which all that a further crash may leave is what a crash at some moment of the call, or between calls, may have left.
   abbrev pub Leads : Move D → (from to : Place D) → Type 0
-  Leads (whole call) (at_core old) (at_core new) = Does storage call old new × Keeps storage.files (IsTrue storage.is_honest) new
-  Leads (cut call new) (at_core old) (at_disk disk) = Does storage call old new × Keeps storage.files (IsTrue storage.is_honest) new × IsLeft storage.files storage.moment storage.left_at old.vault.disk new.vault.disk disk
-  Leads (goes_on commits) (at_core old) (at_core new) = GoesOn storage old new commits × Keeps storage.files (IsTrue storage.is_honest) new
-  Leads (going_cut commits new) (at_core old) (at_disk disk) = GoesOn storage old new commits × Keeps storage.files (IsTrue storage.is_honest) new × IsLeft storage.files storage.moment storage.left_at old.vault.disk new.vault.disk disk
-  Leads crashes (at_core core) (at_disk disk) = IsLeft storage.files storage.moment storage.left_at core.vault.disk core.vault.disk disk
+  Leads (whole call) (at_core old) (at_core new) = Does storage call old new × Keeps storage new
+  Leads (cut call new) (at_core old) (at_disk disk) = Does storage call old new × Keeps storage new × IsLeft storage old.vault.disk new.vault.disk disk
+  Leads (goes_on commits) (at_core old) (at_core new) = GoesOn storage old new commits × Keeps storage new
+  Leads (going_cut commits new) (at_core old) (at_disk disk) = GoesOn storage old new commits × Keeps storage new × IsLeft storage old.vault.disk new.vault.disk disk
+  Leads crashes (at_core core) (at_disk disk) = IsLeft storage core.vault.disk core.vault.disk disk
   Leads gives_back (at_core core) (at_disk disk) = disk ≡ core.vault.disk
-  Leads crashes_again (at_disk before) (at_disk disk) = IsLeft storage.files storage.moment storage.left_at before before disk
-  Leads (opens (Ok core)) (at_disk disk) (at_core opened) = OpensAs storage disk (Ok core) × (opened ≡ core) × Keeps storage.files (IsTrue storage.is_honest) core
+  Leads crashes_again (at_disk before) (at_disk disk) = IsLeft storage before before disk
+  Leads (opens (Ok core)) (at_disk disk) (at_core opened) = OpensAs storage disk (Ok core) × (opened ≡ core) × Keeps storage core
   Leads (opens (Err refused)) (at_disk disk) (at_disk back) = OpensAs storage disk (Err refused) × (back ≡ refused.disk)
-  Leads (opening_cut result) (at_disk before) (at_disk disk) = OpensAs storage before result × IsLeft storage.files storage.moment storage.left_at before (disk_of result) disk
+  Leads (opening_cut result) (at_disk before) (at_disk disk) = OpensAs storage before result × IsLeft storage before (disk_of result) disk
   Leads move from to = ⊥
 
   -- one move after another

@@ -1,9 +1,6 @@
 -- A run as a move.
 use Rattle.disk.specs.declared.storage.Disk.{Ghosts}
 use Rattle.std.specs.Prelude.{◌≡◌, ℕ, Bool, false, Result, IsTrue}
-use Rattle.disk.specs.declared.side.Side.{Side}
-use Rattle.disk.specs.File.{File}
-use Rattle.disk.specs.Time.{Contents}
 use Rattle.commit.specs.declared.verdict.RunError.{RunError}
 use Rattle.commit.specs.declared.verdict.Verdict.{Verdict}
 use Rattle.commit.specs.Core.{Core, is_halted}
@@ -15,4 +12,4 @@ use Rattle.commit.specs.Went.{GoesOn}
 abbrev pub RunsAreMoves : {D : Type 0} → Ghosts D → Type 0
 RunsAreMoves {D} storage =
     (old new : Core D) (may_be_asked may_spawn : Bool) (limit : ℕ) (result : Result Verdict RunError) → is_halted old ≡ false → (run : RunsWithin storage may_be_asked may_spawn old new limit result)
-    → Keeps storage.files (IsTrue storage.is_honest) new → GoesOn storage old new run.commits
+    → Keeps storage new → GoesOn storage old new run.commits

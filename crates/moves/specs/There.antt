@@ -27,9 +27,9 @@ MayStand g h contents = StandsForBeginning g nothing nothing h.made h.doubt cont
 
 module _ {D : Type 0} (files : D → Side → File) where
   -- a crash now leaves such files, and so do reads; each has its first byte
-  abbrev pub Leaves : Graph → History → D → Type 0
-  Leaves g h disk = (contents : Contents) → MayLeaveNow (files disk) contents → MayStand g h contents × HasGates contents
+  abbrev pub LeavesThere : Graph → History → D → Type 0
+  LeavesThere g h disk = (contents : Contents) → MayLeaveNow (files disk) contents → MayStand g h contents × HasGates contents
 
   abbrev pub IsThere : Graph → History → Place D → Type 0
-  IsThere g h (at_core c) = Has g h c × Leaves g h c.vault.disk
-  IsThere g h (at_disk disk) = Leaves g h disk
+  IsThere g h (at_core c) = Has g h c × LeavesThere g h c.vault.disk
+  IsThere g h (at_disk disk) = LeavesThere g h disk

@@ -95,10 +95,10 @@ module _ {D : Type 0} (storage : Ghosts D) where
   }
 
   -- a run since the opening is one from the core that was opened
-  pub runs_of_team : (opening : Opening) (left : ℕ → Contents → Type 0) (old new : Core D) (commits : List Commit) → opening ≡ opening_of storage.files storage.moment storage.failures storage.refusals old → ((t : ℕ) (contents : Contents) → left t contents ↔ storage.left_at old.vault.disk t contents)
-      → RunsSince storage.moment storage.left_at storage.failures storage.refusals (IsTrue storage.is_honest) (begun_with opening) left new commits → Runs storage old new commits
+  pub runs_of_team : (opening : Opening) (left : ℕ → Contents → Type 0) (old new : Core D) (commits : List Commit) → opening ≡ opening_of storage old → ((t : ℕ) (contents : Contents) → left t contents ↔ storage.left_at old.vault.disk t contents)
+      → RunsSince storage (begun_with opening) left new commits → Runs storage old new commits
   runs_of_team opening left old new commits opened alike runs =
-      let it = subst (λ (o : Opening). RunsSince storage.moment storage.left_at storage.failures storage.refusals (IsTrue storage.is_honest) (begun_with o) left new commits) opened runs in
+      let it = subst (λ (o : Opening). RunsSince storage (begun_with o) left new commits) opened runs in
       record {
         are_ends = it.are_ends;
         legal = it.legal;
@@ -118,7 +118,7 @@ module _ {D : Type 0} (storage : Ghosts D) where
       }
 
   -- nothing was committed
-  pub nothing_done : (IsTrue storage.is_honest → RestLeaves storage.files storage.moment storage.left_at) → (IsTrue storage.is_honest → GatesRest storage.files storage.moment storage.left_at) → (core : Core D) (full : Bool) → is_halted core ≡ false → core.in_doubt ≡ [] → (IsTrue storage.is_honest → IsKept storage.files core) → full ≡ false
+  pub nothing_done : (IsTrue storage.is_honest → RestLeaves storage) → (IsTrue storage.is_honest → GatesRest storage) → (core : Core D) (full : Bool) → is_halted core ≡ false → core.in_doubt ≡ [] → (IsTrue storage.is_honest → IsKept storage.files core) → full ≡ false
       → WorksOn storage core core full
   nothing_done leaves gates_rest core full working settled kept none =
       let it = as_it_was storage leaves gates_rest core working settled kept in
@@ -172,7 +172,7 @@ module _ {D : Type 0} (storage : Ghosts D) where
   one_after opening (known ∷ before) passes one = inr (one_after opening before passes one)
 
   -- .. and so met in the core that was opened
-  pub met_by_team : (opening : Opening) (old : Core D) (history : List Made) (envs workers : List Known) → opening ≡ opening_of storage.files storage.moment storage.failures storage.refusals old → AllByRecursion (IsInHistory history) (envs ++ workers) → OneSawFull opening workers
+  pub met_by_team : (opening : Opening) (old : Core D) (history : List Made) (envs workers : List Known) → opening ≡ opening_of storage old → AllByRecursion (IsInHistory history) (envs ++ workers) → OneSawFull opening workers
       → MetFull (graph old) (facts old) old.vault.journal.end (commits history)
   met_by_team opening old history envs workers opened all one =
       subst (λ (o : Opening). MetFull o.graph o.facts o.end (commits history)) opened (saw_in_history opening history (envs ++ workers) all (one_after opening envs workers one))
@@ -193,7 +193,7 @@ module _ {D : Type 0} (storage : Ghosts D) where
   told_more one other may c left count limit before (Err Full) sum so told = (told.0, so told.1, inr refl)
 
   -- a run of the workers, and then its conclusion, are a run with the limit
-  pub driven : AmongBoth → (IsTrue storage.is_honest → GatesStay storage.files storage.moment storage.left_at) → (may_be_asked : Bool) (causes : Causes) (old first mid new : Core D) (limit : ℕ) (result : Result Verdict RunError) → first ≡ with_allowance old limit → (is_halted mid ≡ false → mid.in_doubt ≡ [])
+  pub driven : AmongBoth → (IsTrue storage.is_honest → GatesStay storage) → (may_be_asked : Bool) (causes : Causes) (old first mid new : Core D) (limit : ℕ) (result : Result Verdict RunError) → first ≡ with_allowance old limit → (is_halted mid ≡ false → mid.in_doubt ≡ [])
       → WorksOn storage first mid causes.full → Concludes storage may_be_asked causes mid new result
       → RunsWithin storage may_be_asked true old new limit result
   driven both gates_stay may causes old first mid new limit result allowed settled work concludes = ⊎_elim at_once goes_on concludes.verdict
@@ -220,7 +220,7 @@ module _ {D : Type 0} (storage : Ghosts D) where
           let rest = more.1 in
           record {
             commits = work.commits ++ rest.commits;
-            runs = since_joined storage both gates_stay (begun_by storage.files storage.moment storage.failures storage.refusals (with_allowance old limit)) (storage.left_at old.vault.disk) mid new work.commits rest.commits goes (settled goes) runs rest.runs;
+            runs = since_joined storage both gates_stay (begun_by storage (with_allowance old limit)) (storage.left_at old.vault.disk) mid new work.commits rest.commits goes (settled goes) runs rest.runs;
             told =
                 subst (λ (n : ℕ). TellsVerdict (MetFull (graph old) (facts old) old.vault.journal.end (work.commits ++ rest.commits) × (true ≡ false → IsFull new)) may true new limit n result) (sym (counted work.commits rest.commits))
                 (told_more (MetFull (graph mid) (facts mid) mid.vault.journal.end rest.commits × (false ≡ false → IsFull new)) (MetFull (graph old) (facts old) old.vault.journal.end (work.commits ++ rest.commits) × (true ≡ false → IsFull new)) may new mid.allowance

@@ -124,5 +124,5 @@ fn commit_with<'a, J: Naming, D: Disk, R: Wait>(
     facts_go_on();
     // What is known of every batch: it has an instance.
     batch.len();
-    settled_all(rt, visit.finish_all(pass, batch, &[]))
+    settled_all(rt, visit.finish_all(pass, batch))
 }

@@ -100,7 +100,7 @@ pub(crate) fn run_team<
     P: Probe + Sync,
     R: Threads + Wait + Sync,
 >(rt: &R, alloc: Global, core: Core<D>, blank: Blank, workers: u8, probe: &P) -> (Core<D>, Causes)
-    requires named { IsNamedFor D.files D.moment D.left_at D.failures D.refusals J.table J.passes J.envs J.opening J.left blank core }
+    requires named { IsNamedFor D.Disk J.table J.passes J.envs J.opening J.left blank core }
     requires passes { (blank.envs ≡ 0) × (blank.workers ≡ workers + 1) }
     requires working { is_halted core ≡ false }
     requires idle { NoneRuns core }

@@ -59,11 +59,8 @@ fn negative_or_unknown<'a>(text: &'a str) -> (Token<'a>, usize)
     requires ascii { IsAscii text.now }
     requires some { 0 < length text.now }
     requires not_space { is_space (get_or text.now 0 0) ≡ false }
-    requires not_letter { is_letter (get_or text.now 0 0) ≡ false }
-    requires not_digit { is_digit (get_or text.now 0 0) ≡ false }
-    requires not_sign { is_sign (get_or text.now 0 0) ≡ false }
-    ensures some { 0 < result.1 }
-    ensures within { result.1 ≤ length text.now }
+    requires other { (is_letter (get_or text.now 0 0) ≡ false) × (is_digit (get_or text.now 0 0) ≡ false) × (is_sign (get_or text.now 0 0) ≡ false) }
+    ensures length { (0 < result.1) × (result.1 ≤ length text.now) }
     ensures stands { Stands (lexeme_of result.0) text.now (drop result.1 text.now) }
     ensures sound { IsSound result.0 }
 {

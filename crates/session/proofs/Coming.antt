@@ -1,11 +1,12 @@
 -- How a core goes on by a call, and by several, one after another.
+use Rattle.disk.specs.Storage.{Errs, Leaves}
 use Rattle.disk.specs.declared.storage.Disk.{Ghosts}
 use Rattle.std.proofs.Common.{◌≡◌, ◌∙◌, ◌≤◌, ◌++◌, ap, refl, sym, subst, inl, inr, Bool, true, false, List, [], ◌∷◌, Result, Err, arith, IsTrue}
 use Rattle.std.proofs.lemmas.Bool.{false≢true}
 use Rattle.std.proofs.lemmas.List.{append_assoc, append-nil}
 use Rattle.disk.specs.Erred.{later_erred, erred_later}
 use Rattle.disk.specs.Moments.{joined}
-use Rattle.disk.specs.Time.{Contents, LeavesOnly, HasErred}
+use Rattle.disk.specs.Time.{Contents}
 use Rattle.terms.specs.declared.event.Event.{Event}
 use Rattle.terms.specs.Commits.{Commit, events_of, facts_behind, environment_behind}
 use Rattle.terms.specs.Facts.{Fact, event_facts, environment_facts}
@@ -61,7 +62,7 @@ behind both g h E F X Y first more contents graph given all it =
 module _ {D : Type 0} (storage : Ghosts D) where
   -- ---- one after another
 
-  module _ (both : AmongBoth) (gates_stay : IsTrue storage.is_honest → GatesStay storage.files storage.moment storage.left_at) (old mid new : Core D) (first second : List Commit) where
+  module _ (both : AmongBoth) (gates_stay : IsTrue storage.is_honest → GatesStay storage) (old mid new : Core D) (first second : List Commit) where
     went_on : is_halted mid ≡ false → mid.in_doubt ≡ [] → storage.failures old.vault.disk ≤ storage.failures mid.vault.disk
         → Went storage old mid first → Went storage mid new second → Went storage old new (first ++ second)
     went_on working settled later one two =
@@ -73,7 +74,7 @@ module _ {D : Type 0} (storage : Ghosts D) where
         ap (λ (events : List Event). events ++ new.in_doubt) (events_joined first second) ∙ append_assoc (events_of first) (events_of second) new.in_doubt
         in
         let pending : (first ++ second) ++ in_one new.in_doubt ≡ first ++ (second ++ in_one new.in_doubt) = append_assoc first second (in_one new.in_doubt) in
-        let calm : HasErred storage.failures storage.refusals old.vault.disk mid.vault.disk → ⊥ = λ erred. false≢true (sym working ∙ one.halts.1 erred) in
+        let calm : Errs storage old.vault.disk mid.vault.disk → ⊥ = λ erred. false≢true (sym working ∙ one.halts.1 erred) in
         record {
           legal =
               subst (λ (events : List Event). AreLegalFrom (graph old) (facts old) events) (sym order)
@@ -87,7 +88,7 @@ module _ {D : Type 0} (storage : Ghosts D) where
           generation = λ goes. two.generation goes ∙ one.generation working;
           end = λ goes. ends_behind new.vault.journal.end mid.vault.journal.end old.vault.journal.end (records_length first) (records_length second) (records_length (first ++ second)) (two.end goes) (one.end working) (records_joined first second);
           crashes = λ on.
-              subst (λ (commits : List Commit). LeavesOnly storage.moment storage.left_at old.vault.disk new.vault.disk (StandsForBeginning (graph old) (environment old) (facts old) [] commits)) (sym pending)
+              subst (λ (commits : List Commit). Leaves storage old.vault.disk new.vault.disk (StandsForBeginning (graph old) (environment old) (facts old) [] commits)) (sym pending)
               (joined storage.moment storage.left_at old.vault.disk mid.vault.disk new.vault.disk
               (StandsForBeginning (graph old) (environment old) (facts old) [] (first ++ in_one mid.in_doubt))
               (StandsForBeginning (graph mid) (environment mid) (facts mid) [] (second ++ in_one new.in_doubt))
@@ -128,15 +129,15 @@ module _ {D : Type 0} (storage : Ghosts D) where
           generation = λ goes. absurd (false≢true (sym goes ∙ same.vault.halted ∙ stops));
           end = λ goes. absurd (false≢true (sym goes ∙ same.vault.halted ∙ stops));
           crashes = λ on.
-              subst (λ (d : D). LeavesOnly storage.moment storage.left_at old.vault.disk d (StandsForBeginning (graph old) (environment old) (facts old) [] ((first ++ second) ++ in_one new.in_doubt))) (sym same.vault.disk)
-              (subst (λ (commits : List Commit). LeavesOnly storage.moment storage.left_at old.vault.disk mid.vault.disk (StandsForBeginning (graph old) (environment old) (facts old) [] commits)) pending (one.crashes on));
+              subst (λ (d : D). Leaves storage old.vault.disk d (StandsForBeginning (graph old) (environment old) (facts old) [] ((first ++ second) ++ in_one new.in_doubt))) (sym same.vault.disk)
+              (subst (λ (commits : List Commit). Leaves storage old.vault.disk mid.vault.disk (StandsForBeginning (graph old) (environment old) (facts old) [] commits)) pending (one.crashes on));
           acknowledged = λ on.
               subst (λ (at : D × List Commit × List Event). AcknowledgesFrom (graph old) (environment old) (facts old) (storage.left_at at.0) (storage.moment at.0) (storage.moment old.vault.disk) [] at.1 (in_one at.2))
               (λ i. (sym same.vault.disk i, sym all i, sym same.in_doubt i)) (one.acknowledged on);
-          gates = λ on has. subst (λ (d : D). LeavesOnly storage.moment storage.left_at old.vault.disk d HasGates) (sym same.vault.disk) (one.gates on has);
+          gates = λ on has. subst (λ (d : D). Leaves storage old.vault.disk d HasGates) (sym same.vault.disk) (one.gates on has);
           halts = (
-            λ is. subst (λ (d : D). HasErred storage.failures storage.refusals old.vault.disk d) (sym same.vault.disk) (one.halts.0 (sym same.vault.halted ∙ is)),
-            λ erred. same.vault.halted ∙ one.halts.1 (subst (λ (d : D). HasErred storage.failures storage.refusals old.vault.disk d) same.vault.disk erred),
+            λ is. subst (λ (d : D). Errs storage old.vault.disk d) (sym same.vault.disk) (one.halts.0 (sym same.vault.halted ∙ is)),
+            λ erred. same.vault.halted ∙ one.halts.1 (subst (λ (d : D). Errs storage old.vault.disk d) same.vault.disk erred),
           );
         }
 
@@ -164,7 +165,7 @@ module _ {D : Type 0} (storage : Ghosts D) where
             )
 
   -- the same by what the commits have
-  pub joined_by : AmongBoth → (IsTrue storage.is_honest → GatesStay storage.files storage.moment storage.left_at) → (old mid new : Core D) (first second : List Event) → GoesOnBy storage old mid first
+  pub joined_by : AmongBoth → (IsTrue storage.is_honest → GatesStay storage) → (old mid new : Core D) (first second : List Event) → GoesOnBy storage old mid first
       → GoesOnBy storage mid new second → GoesOnBy storage old new (first ++ second)
   joined_by both gates_stay old mid new first second one two = record {
     commits = one.commits ++ two.commits;
@@ -172,12 +173,12 @@ module _ {D : Type 0} (storage : Ghosts D) where
     goes_on = joined_on both gates_stay old mid new one.commits two.commits one.goes_on two.goes_on;
   }
 
-  module _ (leaves : IsTrue storage.is_honest → RestLeaves storage.files storage.moment storage.left_at) (gates_rest : IsTrue storage.is_honest → GatesRest storage.files storage.moment storage.left_at) where
+  module _ (leaves : IsTrue storage.is_honest → RestLeaves storage) (gates_rest : IsTrue storage.is_honest → GatesRest storage) where
     -- ---- puts
 
-    module _ {T : Type 0} (append : IsTrue storage.is_honest → AppendLeaves storage.files storage.moment storage.left_at) (held : IsTrue storage.is_honest → HeldLeaves storage.files storage.moment storage.left_at) (old new : Core D) (event : Event) (why : Refusal → Type 0) (kept : IsTrue storage.is_honest → IsKept storage.files old) (kept_after : IsTrue storage.is_honest → IsKept storage.files new) (settled : is_halted old ≡ false → old.in_doubt ≡ []) where
+    module _ {T : Type 0} (append : IsTrue storage.is_honest → AppendLeaves storage) (held : IsTrue storage.is_honest → HeldLeaves storage) (old new : Core D) (event : Event) (why : Refusal → Type 0) (kept : IsTrue storage.is_honest → IsKept storage.files old) (kept_after : IsTrue storage.is_honest → IsKept storage.files new) (settled : is_halted old ≡ false → old.in_doubt ≡ []) where
       -- the put was committed
-      pub committed : (result : Result T CoreError) → Takes old new event → new.in_doubt ≡ [] → (is_halted old ≡ false → IsTrue storage.is_honest → CrashLeaves storage.files storage.moment storage.left_at old new (event ∷ [])) → Halts storage.failures storage.refusals old new result
+      pub committed : (result : Result T CoreError) → Takes old new event → new.in_doubt ≡ [] → (is_halted old ≡ false → IsTrue storage.is_honest → CrashLeaves storage old new (event ∷ [])) → Halts storage old new result
           → GoesOn storage old new ((event ∷ []) ∷ [])
       committed result takes none moments halts =
           let one : event ∷ [] ++ new.in_doubt ≡ event ∷ [] = ap (λ (events : List Event). event ∷ events) none in
@@ -190,7 +191,7 @@ module _ {D : Type 0} (storage : Ghosts D) where
               generation = λ _. takes.generation;
               end = λ _. with_record new.vault.journal.end old.vault.journal.end (record_length event) takes.moved;
               crashes = λ on.
-                  subst (λ (events : List Event). LeavesOnly storage.moment storage.left_at old.vault.disk new.vault.disk (StandsForBeginning (graph old) (environment old) (facts old) [] ((event ∷ []) ∷ in_one events))) (sym none)
+                  subst (λ (events : List Event). Leaves storage old.vault.disk new.vault.disk (StandsForBeginning (graph old) (environment old) (facts old) [] ((event ∷ []) ∷ in_one events))) (sym none)
                   (begins storage append old new event on (moments working on));
               acknowledged = λ on. acknowledged_once storage append held old new event takes (moments working) kept_after on;
               gates = λ on has. (moments working on).gates has;
@@ -202,8 +203,8 @@ module _ {D : Type 0} (storage : Ghosts D) where
           }
 
       -- it was refused
-      pub refused : (error : CoreError) → IsUnchanged old new → Refuses old why event error → IsInDoubt {T = T} old new event (Err error) → (is_halted old ≡ false → IsTrue storage.is_honest → CrashLeaves storage.files storage.moment storage.left_at old new (event ∷ []))
-          → Halts {T = T} storage.failures storage.refusals old new (Err error) → GoesOn storage old new []
+      pub refused : (error : CoreError) → IsUnchanged old new → Refuses old why event error → IsInDoubt {T = T} old new event (Err error) → (is_halted old ≡ false → IsTrue storage.is_honest → CrashLeaves storage old new (event ∷ []))
+          → Halts {T = T} storage old new (Err error) → GoesOn storage old new []
       refused error same refuses doubt moments halts =
           record { went = λ working. at working (is_halted new) refl; stays = λ halted. (still halted, refl); settled = λ goes. by_old goes (is_halted old) refl; later = halts.disk.later }
         where
@@ -225,7 +226,7 @@ module _ {D : Type 0} (storage : Ghosts D) where
               (record { graph = same.stays.graph; facts = same.stays.facts; environment = same.stays.environment; allowance = refl; latest = same.stays.latest; disk = kept_so.0.disk; generation = kept_so.0.generation; end = kept_so.0.end; halted = goes; settled = kept_so.1 ∙ settled working }))
           at working true stops =
               let in_doubt : new.in_doubt ≡ event ∷ [] = doubt working stops in
-              let erred : HasErred storage.failures storage.refusals old.vault.disk new.vault.disk = elim (halts.halts.0 stops) [ inl before ↦ absurd (false≢true (sym working ∙ before)) | inr it ↦ it ] in
+              let erred : Errs storage old.vault.disk new.vault.disk = elim (halts.halts.0 stops) [ inl before ↦ absurd (false≢true (sym working ∙ before)) | inr it ↦ it ] in
               let legal = legal_in_doubt storage old new why event error refuses halts erred in
               record {
                 legal = subst (λ (events : List Event). AreLegalFrom (graph old) (facts old) events) (sym in_doubt) (legal, tt);
@@ -235,7 +236,7 @@ module _ {D : Type 0} (storage : Ghosts D) where
                 generation = λ goes. absurd (false≢true (sym goes ∙ stops));
                 end = λ goes. absurd (false≢true (sym goes ∙ stops));
                 crashes = λ on.
-                    subst (λ (events : List Event). LeavesOnly storage.moment storage.left_at old.vault.disk new.vault.disk (StandsForBeginning (graph old) (environment old) (facts old) [] (in_one events))) (sym in_doubt)
+                    subst (λ (events : List Event). Leaves storage old.vault.disk new.vault.disk (StandsForBeginning (graph old) (environment old) (facts old) [] (in_one events))) (sym in_doubt)
                     (begins storage append old new event on (moments working on));
                 acknowledged = λ on t contents after before was.
                     subst (λ (events : List Event). StandsForBeginning (graph old) (environment old) (facts old) [] (in_one events) contents) (sym in_doubt)

@@ -51,7 +51,7 @@ module _ {D : Type 0} (storage : Ghosts D) where
   came_by : (old new : Core D) (puts : List Command) (came : List (List Event)) → ComeTogether storage old new puts came → GoesOnBy storage old new (all_of came)
   came_by old new puts came together = record { commits = all_of came ∷ []; order = append-nil (all_of came); goes_on = together.goes_on }
 
-  module _ {S : Type 0} (target : S → GName) (has_failed : S → Bool) (contents : S → Option (List ℕ)) (both : AmongBoth) (gates_stay : IsTrue storage.is_honest → GatesStay storage.files storage.moment storage.left_at)
+  module _ {S : Type 0} (target : S → GName) (has_failed : S → Bool) (contents : S → Option (List ℕ)) (both : AmongBoth) (gates_stay : IsTrue storage.is_honest → GatesStay storage)
       (drive : Drive) (commands left : List Command) (first here there : S) (old mid new : Core D) (puts : List Command) (before ending : Ending) where
     -- after these puts
     pub record AllTurned (so_far : SoFar storage drive commands (puts ++ left) (contents first) (contents here) old mid before) : Type 0 where
@@ -127,7 +127,7 @@ module _ {D : Type 0} (storage : Ghosts D) where
     }
 
   -- so however it stood before these puts, it stands so after them
-  pub keeps_all : {S : Type 0} (target : S → GName) (has_failed : S → Bool) (contents : S → Option (List ℕ)) → AmongBoth → (IsTrue storage.is_honest → GatesStay storage.files storage.moment storage.left_at) → (was now : Progress) (here there : S) (from new : Core D) (puts left : List Command) (g : Graph)
+  pub keeps_all : {S : Type 0} (target : S → GName) (has_failed : S → Bool) (contents : S → Option (List ℕ)) → AmongBoth → (IsTrue storage.is_honest → GatesStay storage) → (was now : Progress) (here there : S) (from new : Core D) (puts left : List Command) (g : Graph)
       → was.left.now ≡ puts ++ left → was.failed ≡ false → was.ending.stop ≡ None → now.left.now ≡ left → g ≡ graph new → CameTogether storage from new puts
       → TellsReplies target has_failed contents g puts (dones puts) here there was.ending now.ending now.failed → KeepsStanding storage target has_failed contents was now here there from new
   keeps_all target has_failed contents both gates_stay was now here there from new puts left g is works none rest of_graph it tells drive commands first old stands =

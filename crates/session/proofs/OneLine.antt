@@ -37,7 +37,7 @@ module _ {D : Type 0} (storage : Ghosts D) where
 
   -- ---- runs
 
-  module _ (rest_leaves : IsTrue storage.is_honest → RestLeaves storage.files storage.moment storage.left_at) (gates_rest : IsTrue storage.is_honest → GatesRest storage.files storage.moment storage.left_at) (new : Core D) (kept : IsTrue storage.is_honest → IsKept storage.files new) (settled : is_halted new ≡ false → new.in_doubt ≡ [])
+  module _ (rest_leaves : IsTrue storage.is_honest → RestLeaves storage) (gates_rest : IsTrue storage.is_honest → GatesRest storage) (new : Core D) (kept : IsTrue storage.is_honest → IsKept storage.files new) (settled : is_halted new ≡ false → new.in_doubt ≡ [])
       (verdict : Result Verdict RunError) (reply : Reply) (exact : IfSome (run_reply verdict) (λ expected. reply ≡ expected))
       (tells : (g : Graph) (X : Facts) (from : ℕ) (commits : List Commit) (may_be_asked may_spawn was_halted : Bool) (limit count : ℕ) → TellsVerdict (MetFull g X from commits) may_be_asked may_spawn new limit count verdict
       → TellsRun (graph new) (drive_of limit may_be_asked may_spawn was_halted) (facts new) count reply)

@@ -1,8 +1,8 @@
 -- The replies to a put, and to a get that is refused.
+use Rattle.disk.specs.Storage.{Errs}
 use Rattle.disk.specs.declared.storage.Disk.{Ghosts}
 use Rattle.std.proofs.Common.{◌≡◌, ◌≢◌, ◌∙◌, ◌↔◌, ap, refl, sym, inl, inr, ℕ, Bool, true, false, List, [], ◌∷◌, Option, Some, None, Result, Ok, Err, OnOk, OnErr, IfErr, IsErrOf, IsTrue}
 use Rattle.std.proofs.lemmas.Bool.{false≢true}
-use Rattle.disk.specs.Time.{HasErred}
 use Rattle.terms.specs.declared.name.Inst.{Inst}
 use Rattle.terms.specs.declared.event.Event.{Event}
 use Rattle.terms.specs.Commits.{Commit}
@@ -43,10 +43,10 @@ refused_reply c why event (Store store.Exists) is = absurd is
 -- ---- puts
 
 module _ {D T : Type 0} (storage : Ghosts D)
-    (leaves : IsTrue storage.is_honest → RestLeaves storage.files storage.moment storage.left_at) (gates_rest : IsTrue storage.is_honest → GatesRest storage.files storage.moment storage.left_at) (append : IsTrue storage.is_honest → AppendLeaves storage.files storage.moment storage.left_at) (held : IsTrue storage.is_honest → HeldLeaves storage.files storage.moment storage.left_at)
+    (leaves : IsTrue storage.is_honest → RestLeaves storage) (gates_rest : IsTrue storage.is_honest → GatesRest storage) (append : IsTrue storage.is_honest → AppendLeaves storage) (held : IsTrue storage.is_honest → HeldLeaves storage)
     (old new : Core D) (event : Event) (why : Refusal → Type 0) (kept : IsTrue storage.is_honest → IsKept storage.files old) (kept_after : IsTrue storage.is_honest → IsKept storage.files new) (settled : is_halted old ≡ false → old.in_doubt ≡ []) where
   pub replied_put : (result : Result T CoreError) → OnOk result (Takes old new event) → OnErr result (IsUnchanged old new) → IfErr result (Refuses old why event) → IsInDoubt old new event result
-      → (IsTrue storage.is_honest → is_halted old ≡ false → CrashLeaves storage.files storage.moment storage.left_at old new (event ∷ [])) → Halts storage.failures storage.refusals old new result
+      → (IsTrue storage.is_honest → is_halted old ≡ false → CrashLeaves storage old new (event ∷ [])) → Halts storage old new result
       → (came : List Event) × GoesOnBy storage old new came × RepliesPut (graph old) (facts old) why event came (put_reply result)
   replied_put (Ok done) takes same refuses doubt moments halts = (
     event ∷ [],
@@ -87,10 +87,10 @@ halted_before c why event (Store store.NotAStore) is told = absurd is
 halted_before c why event (Store store.Exists) is told = absurd is
 
 -- the reply to a put is `Halted` exactly if the core was halted before
-pub put_halt : {D T : Type 0} (failures refusals : D → ℕ) (old new : Core D) (why : Refusal → Type 0) (event : Event) (result : Result T CoreError) → OnOk result (Takes old new event) → IfErr result (Refuses old why event)
-    → Halts failures refusals old new result → (put_reply result ≡ replied.Halted) ↔ (is_halted old ≡ true)
-put_halt failures refusals old new why event (Ok done) takes refuses halts = (λ told. absurd (cc), λ halted. absurd (false≢true (sym takes.working.0 ∙ halted)))
-put_halt failures refusals old new why event (Err error) takes refuses halts = (halted_before old why event error refuses, λ halted. ap put_reply (halts.halted.1 halted))
+pub put_halt : {D T : Type 0} (storage : Ghosts D) (old new : Core D) (why : Refusal → Type 0) (event : Event) (result : Result T CoreError) → OnOk result (Takes old new event) → IfErr result (Refuses old why event)
+    → Halts storage old new result → (put_reply result ≡ replied.Halted) ↔ (is_halted old ≡ true)
+put_halt storage old new why event (Ok done) takes refuses halts = (λ told. absurd (cc), λ halted. absurd (false≢true (sym takes.working.0 ∙ halted)))
+put_halt storage old new why event (Err error) takes refuses halts = (halted_before old why event error refuses, λ halted. ap put_reply (halts.halted.1 halted))
 
 -- ---- causes
 
@@ -133,10 +133,10 @@ put_too_long old why event (Ok done) refuses is = absurd (cc)
 put_too_long old why event (Err error) refuses is = too_long old why event error refuses is
 
 -- the cause of a reply to a put, whatever commits came
-pub put_cause : {D T : Type 0} (failures refusals : D → ℕ) (old new : Core D) (why : Refusal → Type 0) (event : Event) (command : Command) (commits : List Commit) → Puts command → (IsTooLong old event → HasNoRoom old command commits) → (result : Result T CoreError)
-    → OnOk result (Takes old new event) → IfErr result (Refuses old why event) → Halts failures refusals old new result → HasCause failures old new command commits (put_reply result)
-put_cause failures refusals old new why event command commits puts room result takes refuses halts = record {
-  halted = λ is. halts.halts.1 (inl ((put_halt failures refusals old new why event result takes refuses halts).0 is));
+pub put_cause : {D T : Type 0} (storage : Ghosts D) (old new : Core D) (why : Refusal → Type 0) (event : Event) (command : Command) (commits : List Commit) → Puts command → (IsTooLong old event → HasNoRoom old command commits) → (result : Result T CoreError)
+    → OnOk result (Takes old new event) → IfErr result (Refuses old why event) → Halts storage old new result → HasCause storage.failures old new command commits (put_reply result)
+put_cause storage old new why event command commits puts room result takes refuses halts = record {
+  halted = λ is. halts.halts.1 (inl ((put_halt storage old new why event result takes refuses halts).0 is));
   halts = λ run. absurd (no_run command puts run);
   device = (λ is. (puts, halts.disk.device.0 (put_device result is)), λ both. ap put_reply (halts.disk.device.1 both.1));
   full = λ is. room (put_too_long old why event result refuses is);
@@ -145,7 +145,7 @@ put_cause failures refusals old new why event command commits puts room result t
 
 -- ---- what stays
 
-module _ {D T : Type 0} (failures refusals : D → ℕ) (old new : Core D) (error : CoreError) (halts : Halts {T = T} failures refusals old new (Err error)) where
+module _ {D T : Type 0} (storage : Ghosts D) (old new : Core D) (error : CoreError) (halts : Halts {T = T} storage old new (Err error)) where
   error_is : {cause : CoreError} → ◌≡◌ {A = Result T CoreError} (Err error) (Err cause) → error ≡ cause
   error_is is = cc
 
@@ -153,7 +153,7 @@ module _ {D T : Type 0} (failures refusals : D → ℕ) (old new : Core D) (erro
   pub calm : error ≢ Store store.Device → error ≢ Store store.NoMemory → is_halted old ≡ false → is_halted new ≡ is_halted old
   calm not_device not_memory working = at (is_halted new) refl
     where
-      erred : HasErred failures refusals old.vault.disk new.vault.disk → ⊥
+      erred : Errs storage old.vault.disk new.vault.disk → ⊥
       erred (inl grew) = not_device (error_is (halts.disk.device.1 grew))
       erred (inr changed) = not_memory (error_is (halts.disk.refused changed))
 
@@ -165,18 +165,18 @@ pub some_is_none : (end : Stop) → ◌≡◌ {A = Option Stop} (Some end) None 
 some_is_none end is = cc
 
 -- after a put whose reply ends no session the core is halted exactly if it was before
-error_stays : {D T : Type 0} (failures refusals : D → ℕ) (old new : Core D) (why : Refusal → Type 0) (event : Event) (error : CoreError) → Refuses old why event error → Halts {T = T} failures refusals old new (Err error)
+error_stays : {D T : Type 0} (storage : Ghosts D) (old new : Core D) (why : Refusal → Type 0) (event : Event) (error : CoreError) → Refuses old why event error → Halts {T = T} storage old new (Err error)
     → stop_of (reply_of error) ≡ None → is_halted new ≡ is_halted old
-error_stays {T = T} failures refusals old new why event (Refused cause) is halts none = calm {T = T} failures refusals old new (Refused cause) halts (λ same. cc) (λ same. cc) is.0
-error_stays {T = T} failures refusals old new why event (Store store.Full) is halts none = calm {T = T} failures refusals old new (Store store.Full) halts (λ same. cc) (λ same. cc) is.0
-error_stays failures refusals old new why event (Store store.Device) is halts none = absurd (some_is_none stop.Device none)
-error_stays failures refusals old new why event (Store store.NoMemory) is halts none = absurd (some_is_none stop.NoMemory none)
-error_stays failures refusals old new why event (Store store.Halted) is halts none = absurd (some_is_none stop.Halted none)
-error_stays failures refusals old new why event (Store (store.Damaged side place)) is halts none = absurd is
-error_stays failures refusals old new why event (Store store.NotAStore) is halts none = absurd is
-error_stays failures refusals old new why event (Store store.Exists) is halts none = absurd is
+error_stays {T = T} storage old new why event (Refused cause) is halts none = calm {T = T} storage old new (Refused cause) halts (λ same. cc) (λ same. cc) is.0
+error_stays {T = T} storage old new why event (Store store.Full) is halts none = calm {T = T} storage old new (Store store.Full) halts (λ same. cc) (λ same. cc) is.0
+error_stays storage old new why event (Store store.Device) is halts none = absurd (some_is_none stop.Device none)
+error_stays storage old new why event (Store store.NoMemory) is halts none = absurd (some_is_none stop.NoMemory none)
+error_stays storage old new why event (Store store.Halted) is halts none = absurd (some_is_none stop.Halted none)
+error_stays storage old new why event (Store (store.Damaged side place)) is halts none = absurd is
+error_stays storage old new why event (Store store.NotAStore) is halts none = absurd is
+error_stays storage old new why event (Store store.Exists) is halts none = absurd is
 
-pub put_stays : {D T : Type 0} (failures refusals : D → ℕ) (old new : Core D) (why : Refusal → Type 0) (event : Event) (result : Result T CoreError) → OnOk result (Takes old new event) → IfErr result (Refuses old why event)
-    → Halts failures refusals old new result → stop_of (put_reply result) ≡ None → is_halted new ≡ is_halted old
-put_stays failures refusals old new why event (Ok done) takes refuses halts none = takes.working.1 ∙ sym takes.working.0
-put_stays failures refusals old new why event (Err error) takes refuses halts none = error_stays failures refusals old new why event error refuses halts none
+pub put_stays : {D T : Type 0} (storage : Ghosts D) (old new : Core D) (why : Refusal → Type 0) (event : Event) (result : Result T CoreError) → OnOk result (Takes old new event) → IfErr result (Refuses old why event)
+    → Halts storage old new result → stop_of (put_reply result) ≡ None → is_halted new ≡ is_halted old
+put_stays storage old new why event (Ok done) takes refuses halts none = takes.working.1 ∙ sym takes.working.0
+put_stays storage old new why event (Err error) takes refuses halts none = error_stays storage old new why event error refuses halts none

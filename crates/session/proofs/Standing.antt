@@ -31,7 +31,7 @@ use Rattle.session.proofs.Went.{finished, some_is_not_none, went_nowhere}
 module _ {D : Type 0} (storage : Ghosts D) {S : Type 0} (target : S → GName) (has_failed : S → Bool) (contents : S → Option (List ℕ)) where
   -- ---- before the first line
 
-  begun : (IsTrue storage.is_honest → RestLeaves storage.files storage.moment storage.left_at) → (IsTrue storage.is_honest → GatesRest storage.files storage.moment storage.left_at) → (drive : Drive) (commands : List Command) (first : S) (core : Core D) → (IsTrue storage.is_honest → IsKept storage.files core) → (is_halted core ≡ false → core.in_doubt ≡ [])
+  begun : (IsTrue storage.is_honest → RestLeaves storage) → (IsTrue storage.is_honest → GatesRest storage) → (drive : Drive) (commands : List Command) (first : S) (core : Core D) → (IsTrue storage.is_honest → IsKept storage.files core) → (is_halted core ≡ false → core.in_doubt ≡ [])
       → drive.was_halted ≡ is_halted core → Stands storage target has_failed contents drive commands commands first first core core no_ending false
   begun rest_leaves gates_rest drive commands first core kept settled was = record {
     sink = (refl, refl);
@@ -49,7 +49,7 @@ module _ {D : Type 0} (storage : Ghosts D) {S : Type 0} (target : S → GName) (
     over = λ ended. elim ended [ inl failed ↦ absurd (false≢true failed) | inr stops ↦ absurd (stops refl) ];
   }
 
-  pub stands_first : (IsTrue storage.is_honest → RestLeaves storage.files storage.moment storage.left_at) → (IsTrue storage.is_honest → GatesRest storage.files storage.moment storage.left_at) → (drive : Drive) (commands left : List Command) (first : S) (core : Core D) (ending : Ending) (failed : Bool) → (IsTrue storage.is_honest → IsKept storage.files core)
+  pub stands_first : (IsTrue storage.is_honest → RestLeaves storage) → (IsTrue storage.is_honest → GatesRest storage) → (drive : Drive) (commands left : List Command) (first : S) (core : Core D) (ending : Ending) (failed : Bool) → (IsTrue storage.is_honest → IsKept storage.files core)
       → (is_halted core ≡ false → core.in_doubt ≡ []) → drive.was_halted ≡ is_halted core → left ≡ commands → ending ≡ no_ending → failed ≡ false → Stands storage target has_failed contents drive commands left first first core core ending failed
   stands_first rest_leaves gates_rest drive commands left first core ending failed kept settled was all none works =
       subst (λ (list : List Command). Stands storage target has_failed contents drive commands list first first core core ending failed) (sym all)
@@ -59,7 +59,7 @@ module _ {D : Type 0} (storage : Ghosts D) {S : Type 0} (target : S → GName) (
 
   -- ---- after a line
 
-  module _ (both : AmongBoth) (gates_stay : IsTrue storage.is_honest → GatesStay storage.files storage.moment storage.left_at) (drive : Drive) (commands left : List Command) (first here there : S) (old mid new : Core D) (command : Command) (reply : Reply) (before ending : Ending) where
+  module _ (both : AmongBoth) (gates_stay : IsTrue storage.is_honest → GatesStay storage) (drive : Drive) (commands left : List Command) (first here there : S) (old mid new : Core D) (command : Command) (reply : Reply) (before ending : Ending) where
     turn_of : (so_far : SoFar storage drive commands (command ∷ left) (contents first) (contents here) old mid before) → ComesTo storage drive mid new command reply
         → Turned storage drive old new so_far.begun command before so_far.replies reply
     turn_of so_far it =
@@ -144,7 +144,7 @@ module _ {D : Type 0} (storage : Ghosts D) {S : Type 0} (target : S → GName) (
   calm_so_far drive commands left first now old new ending false works it = it.sink
 
   -- the next line was answered
-  pub stands_on : AmongBoth → (IsTrue storage.is_honest → GatesStay storage.files storage.moment storage.left_at) → (drive : Drive) (commands left more : List Command) (first here there : S) (old mid new : Core D) (command : Command) (reply : Reply) (before ending : Ending) (was failed : Bool) (g : Graph)
+  pub stands_on : AmongBoth → (IsTrue storage.is_honest → GatesStay storage) → (drive : Drive) (commands left more : List Command) (first here there : S) (old mid new : Core D) (command : Command) (reply : Reply) (before ending : Ending) (was failed : Bool) (g : Graph)
       → left ≡ command ∷ more → was ≡ false → before.stop ≡ None → g ≡ graph new → Stands storage target has_failed contents drive commands left first here old mid before was
       → (drive.was_halted ≡ is_halted mid → ComesTo storage drive mid new command reply) → TellsReply target has_failed contents g command reply here there before ending failed → Stands storage target has_failed contents drive commands more first there old new ending failed
   stands_on both gates_stay drive commands left more first here there old mid new command reply before ending was failed g is works none of_graph stands comes tells =
@@ -152,7 +152,7 @@ module _ {D : Type 0} (storage : Ghosts D) {S : Type 0} (target : S → GName) (
       next both gates_stay drive commands more first here there old mid new command reply before ending failed g of_graph (calm_so_far drive commands left first here old mid before was works stands) so_far (comes so_far.same) tells
 
   -- so however it stood before the line, it stands so after it
-  pub keeps_on : AmongBoth → (IsTrue storage.is_honest → GatesStay storage.files storage.moment storage.left_at) → (start was took now : Progress) (begin here there : S) (from mid new : Core D) (command : Command) (reply : Reply) (g : Graph)
+  pub keeps_on : AmongBoth → (IsTrue storage.is_honest → GatesStay storage) → (start was took now : Progress) (begin here there : S) (from mid new : Core D) (command : Command) (reply : Reply) (g : Graph)
       → was.left.now ≡ command ∷ took.left.now → was.failed ≡ false → was.ending.stop ≡ None → took.ending ≡ was.ending → now.left.now ≡ took.left.now → g ≡ graph new
       → ((drive : Drive) → drive.was_halted ≡ is_halted mid → ComesTo storage drive mid new command reply) → TellsReply target has_failed contents g command reply here there took.ending now.ending now.failed
       → KeepsStanding storage target has_failed contents start was begin here from mid → KeepsStanding storage target has_failed contents start now begin there from new

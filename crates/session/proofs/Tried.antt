@@ -20,7 +20,7 @@ use Rattle.machine.specs.Memory.{facts_of}
 use Rattle.machine.specs.State.{AreLegalFrom}
 use Rattle.vault.specs.Commits.{GatesStay}
 use Rattle.vault.specs.declared.error.VaultError.TheVariants as store
-use Rattle.commit.specs.declared.batch.TheConstants.{MOST_TOGETHER}
+use Rattle.session.specs.declared.rows.TheConstants.{MOST_LINES}
 use Rattle.commit.specs.declared.error.CoreError.{CoreError}
 use Rattle.commit.specs.declared.error.CoreError.TheVariants.{Refused, Store}
 use Rattle.commit.specs.Calls.{KeepsStore}
@@ -101,7 +101,7 @@ module _ {D : Type 0} (storage : Ghosts D) where
 
   -- ---- the first ones come
 
-  pub first_came : (old new : Core D) (commands : List Command) (count : ℕ) → AllByRecursion Puts commands → length commands ≤ MOST_TOGETHER → 1 ≤ count
+  pub first_came : (old new : Core D) (commands : List Command) (count : ℕ) → AllByRecursion Puts commands → length commands ≤ MOST_LINES → 1 ≤ count
       → PutsAll storage old new (all_of (map put_by commands)) (Ok count) → FirstCame storage old new commands count
   first_came old new commands count all few some it =
       let told : count ≡ it.count = it.told in
@@ -148,7 +148,7 @@ module _ {D : Type 0} (storage : Ghosts D) where
     not_full : error ≡ Store store.Full → ⊥
     not_full is =
         let working : is_halted old ≡ false = (subst (λ (e : CoreError). RefusesPuts old (take it.count puts) e) is it.tries.refused).0 in
-        false≢true (sym (calm {T = ℕ} storage.failures storage.refusals old new error it.tries.halts (λ device. apart_one (sym is ∙ device)) (λ memory. apart_two (sym is ∙ memory)) working ∙ working) ∙ stops)
+        false≢true (sym (calm {T = ℕ} storage old new error it.tries.halts (λ device. apart_one (sym is ∙ device)) (λ memory. apart_two (sym is ∙ memory)) working ∙ working) ∙ stops)
       where
         apart_one : Store store.Full ≡ Store store.Device → ⊥
         apart_one same = cc
@@ -252,7 +252,7 @@ module _ {D : Type 0} (storage : Ghosts D) where
 
   -- ---- a put alone, after others were tried
 
-  module _ (both : AmongBoth) (gates_stay : IsTrue storage.is_honest → GatesStay storage.files storage.moment storage.left_at) (old mid new : Core D) (still : KeepsStore old mid) (nothing : GoesOn storage old mid []) where
+  module _ (both : AmongBoth) (gates_stay : IsTrue storage.is_honest → GatesStay storage) (old mid new : Core D) (still : KeepsStore old mid) (nothing : GoesOn storage old mid []) where
     halted_as : is_halted mid ≡ is_halted old
     halted_as = still.vault.halted
 

@@ -56,7 +56,7 @@ module _ {D : Type 0} (storage : Ghosts D) where
       pub ends : (left : List Command) → with_reply ending command reply ≡ ending_of (begun ++ command ∷ left) (replies ++ reply ∷ [])
       pub answered : AreReplies (graph old) drive (facts old) (begun ++ command ∷ []) (replies ++ reply ∷ []) events
 
-    pub turned : AmongBoth → (IsTrue storage.is_honest → GatesStay storage.files storage.moment storage.left_at) → (old mid new : Core D) (begun : List Command) (command : Command) (ending : Ending) (replies : List Reply) (reply : Reply) (events : List (List Event))
+    pub turned : AmongBoth → (IsTrue storage.is_honest → GatesStay storage) → (old mid new : Core D) (begun : List Command) (command : Command) (ending : Ending) (replies : List Reply) (reply : Reply) (events : List (List Event))
         → GoesOnBy storage old mid (all_of events) → Linked storage old mid begun replies events → Answered (graph old) drive (facts old) begun ending replies events
         → (came : List Event) × (goes : GoesOnBy storage mid new came) × Replies (graph mid) drive (facts mid) command came reply × HasCause storage.failures mid new command goes.commits reply
         → Turned old new begun command ending replies reply

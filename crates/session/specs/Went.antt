@@ -7,7 +7,7 @@ use Rattle.terms.specs.declared.event.Event.TheVariants.{EnvItem, EnvTag}
 use Rattle.terms.specs.Commits.{Commit, events_of}
 use Rattle.terms.specs.Sets.{Facts}
 use Rattle.graph.specs.Graph.{Graph}
-use Rattle.commit.specs.declared.batch.TheConstants.{MOST_TOGETHER}
+use Rattle.session.specs.declared.rows.TheConstants.{MOST_LINES}
 use Rattle.commit.specs.declared.status.Status.TheVariants as status
 use Rattle.commit.specs.Calls.{IsTooLong}
 use Rattle.commit.specs.Core.{Core, is_halted}
@@ -110,7 +110,7 @@ module _ {D : Type 0} (storage : Ghosts D) where
   -- Several puts that were committed as one: the event of each came by its line, all of them as one commit, and the core is not halted.
   pub record ComeTogether (old new : Core D) (commands : List Command) (events : List (List Event)) : Type 0 where
     pub some : 1 ≤ length commands
-    pub few : length commands ≤ MOST_TOGETHER
+    pub few : length commands ≤ MOST_LINES
     pub puts : AllByRecursion Puts commands
     pub each : events ≡ map put_by commands
     pub goes_on : GoesOn storage old new (all_of events ∷ [])

@@ -2,14 +2,14 @@
 ghost use Rattle.std.specs.Prelude.{◌≡◌, ◌∷◌, ◌<◌, ◌≤◌, [], None, false, true, length, take, IfSome, IsTrue};
 ghost use Rattle.std.specs.List.{AllByRecursion};
 ghost use Rattle.commit.specs.Runs.{NoneRuns};
-ghost use Rattle.commit.specs.declared.batch.TheConstants.{MOST_TOGETHER};
+ghost use Rattle.session.specs.declared.rows.TheConstants.{MOST_LINES};
 ghost use Rattle.session.specs.Went.{Puts, dones};
 
 use crate::answers::{answer, ran};
 use crate::reply::{NamedReply, Reply};
-use crate::rows::{put_some, puts_in_front};
+use crate::rows::{MOST_LINES, put_some, puts_in_front};
 use crate::{Ending, SessionError};
-use commit::{Core, MOST_TOGETHER, RunError, Verdict};
+use commit::{Core, RunError, Verdict};
 use disk::Disk;
 use graph::Graph;
 use report::Sink;
@@ -103,7 +103,7 @@ impl<'a> Progress<'a> {
         Ok(self.ending)
     }
 
-    // Answers the puts in front, if more than `MOST_TOGETHER` of them stand in a row. They are committed in groups of up to that number; one
+    // Answers the puts in front, if more than `MOST_LINES` of them stand in a row. They are committed in groups of up to that number; one
     // that does not come with others is put alone.
     fn put_row<D: Disk, O: Sink>(&mut self, alloc: Global, core: &mut Core<D>, out: &mut O)
         requires idle { NoneRuns core.old }
@@ -112,12 +112,12 @@ impl<'a> Progress<'a> {
         ensures fewer { length self.new.left.now ≤ length self.old.left.now }
     {
         let row = puts_in_front(self.left);
-        if row <= MOST_TOGETHER {
+        if row <= MOST_LINES {
             return;
         }
         let behind = self.left.len() - row;
         'groups: while self.goes_on(behind) {
-            let most = (self.left.len() - behind).min(MOST_TOGETHER);
+            let most = (self.left.len() - behind).min(MOST_LINES);
             self.put_group(alloc, core, most, out);
         }
     }
@@ -139,9 +139,7 @@ impl<'a> Progress<'a> {
     )
         requires idle { NoneRuns core.old }
         requires going { (self.old.failed ≡ false) × (self.old.ending.stop ≡ None) }
-        requires some { 1 ≤ most }
-        requires few { most ≤ MOST_TOGETHER }
-        requires within { most ≤ length self.old.left.now }
+        requires size { (1 ≤ most) × (most ≤ MOST_LINES) × (most ≤ length self.old.left.now) }
         requires puts { AllByRecursion Puts (take most self.old.left.now) }
         ensures idle { NoneRuns core.new }
         ensures keeps { KeepsStanding D.Disk O.target O.has_failed O.contents self.old self.new out.old out.new core.old core.new }

@@ -2,7 +2,7 @@
 ghost use Rattle.std.specs.Prelude.{◌≡◌, ◌≤◌, IfOk, IsTrue, MatchBool, Some, length, map, take};
 ghost use Rattle.std.specs.List.{AllByRecursion};
 ghost use Rattle.commit.specs.Runs.{NoneRuns};
-ghost use Rattle.commit.specs.declared.batch.TheConstants.{MOST_TOGETHER};
+ghost use Rattle.session.specs.declared.rows.TheConstants.{MOST_LINES};
 ghost use Rattle.session.specs.Lines.{AnswersAtOnce, AnswersSome, AnswersTogether};
 ghost use Rattle.session.specs.Session.{all_of};
 ghost use Rattle.session.specs.Went.{Puts, put_by};
@@ -15,6 +15,9 @@ use script::Command;
 use std::alloc::{AllocError, Global};
 use terms::{Event, facts_are_told_apart};
 use vault::stores_go_on;
+
+/// Where more puts than this stand in a row, they are committed in groups of up to this number.
+pub const MOST_LINES: usize = 64;
 
 /// How several puts came, that were tried as one commit.
 #[derive(Drop)]
@@ -60,7 +63,7 @@ pub(crate) fn put_some<D: Disk>(
     requires idle { NoneRuns core.old }
     requires puts { AllByRecursion Puts commands.now }
     requires some { 1 ≤ length commands.now }
-    requires few { length commands.now ≤ MOST_TOGETHER }
+    requires few { length commands.now ≤ MOST_LINES }
     ensures idle { NoneRuns core.new }
     ensures answers { AnswersSome D.Disk core.old core.new commands.now result }
 {
@@ -78,7 +81,7 @@ fn put_together<D: Disk>(alloc: Global, core: &mut Core<D>, commands: &[Command]
     requires idle { NoneRuns core.old }
     requires puts { AllByRecursion Puts commands.now }
     requires some { 1 ≤ length commands.now }
-    requires few { length commands.now ≤ MOST_TOGETHER }
+    requires few { length commands.now ≤ MOST_LINES }
     ensures idle { NoneRuns core.new }
     ensures answers { AnswersTogether D.Disk core.old core.new commands.now result }
 {

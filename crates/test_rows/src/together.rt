@@ -25,7 +25,7 @@ pub(crate) fn finish_together(
 ) -> Result<Option<Result<Ended, CoreError>>, AllocError> {
     let graph = Arc::clone(core.graph())?;
     match ended(alloc, core, &graph, most) {
-        Some(batch) => Ok(Some(core.finish_all(batch, &[]))),
+        Some(batch) => Ok(Some(core.finish_all(batch))),
         None => Ok(None),
     }
 }

@@ -35,7 +35,7 @@ fn hold_as<J: Naming + Send + Sync, D: Disk + Drop + Send, R: Handles>(
     blank: Blank,
     gate: &Gate,
 ) -> Result<(), Error>
-    requires { IsNamedFor D.files D.moment D.left_at D.failures D.refusals J.table J.passes J.envs J.opening J.left blank core }
+    requires { IsNamedFor D.Disk J.table J.passes J.envs J.opening J.left blank core }
 {
     let Ok((hub, mut envs, _)) = Hub::<J, D>::open(rt.alloc(), core, blank) else {
         bail!("no hub was opened")

@@ -61,7 +61,7 @@ fn try_as<J: Naming + Send + Sync, D: Disk + Drop + Send, R: Handles>(
     blank: Blank,
     row: Row,
 ) -> Result<Core<D>, Error>
-    requires { IsNamedFor D.files D.moment D.left_at D.failures D.refusals J.table J.passes J.envs J.opening J.left blank core }
+    requires { IsNamedFor D.Disk J.table J.passes J.envs J.opening J.left blank core }
 {
     let Ok((hub, envs, workers)) = Hub::<J, D>::open(rt.alloc(), core, blank) else {
         bail!("no hub was opened")

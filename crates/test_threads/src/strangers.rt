@@ -52,7 +52,7 @@ fn open_here<J: Naming, D: Disk + Drop, R: Handles>(
     other_core: Core<D>,
     other_blank: Blank,
 ) -> Result<(), Error>
-    requires { IsNamedFor D.files D.moment D.left_at D.failures D.refusals J.table J.passes J.envs J.opening J.left blank core }
+    requires { IsNamedFor D.Disk J.table J.passes J.envs J.opening J.left blank core }
 {
     let Ok((here, _, mut workers)) = Hub::<J, D>::open(rt.alloc(), core, blank) else {
         bail!("no hub was opened")
@@ -105,7 +105,7 @@ fn open_there<J: Naming, K: Naming, D: Disk + Drop, R: Handles>(
     blank: Blank,
 ) -> Result<(), Error>
     requires outcome { IsOutcomeIn J.opening.graph (facts_behind J.opening runner.old.seen) instance outcome }
-    requires named { IsNamedFor D.files D.moment D.left_at D.failures D.refusals K.table K.passes K.envs K.opening K.left blank core }
+    requires named { IsNamedFor D.Disk K.table K.passes K.envs K.opening K.left blank core }
 {
     let Ok((there, _, mut workers)) = Hub::<K, D>::open(rt.alloc(), core, blank) else {
         bail!("no hub was opened")

@@ -40,7 +40,7 @@ fn watch_as<J: Naming + Send + Sync, D: Disk + Drop + Send, R: Handles>(
     core: Core<D>,
     blank: Blank,
 ) -> Result<(), Error>
-    requires { IsNamedFor D.files D.moment D.left_at D.failures D.refusals J.table J.passes J.envs J.opening J.left blank core }
+    requires { IsNamedFor D.Disk J.table J.passes J.envs J.opening J.left blank core }
 {
     let Ok((hub, mut envs, mut workers)) = Hub::<J, D>::open(rt.alloc(), core, blank) else {
         bail!("no hub was opened")

@@ -1,5 +1,5 @@
+use Rattle.disk.specs.Storage.{Errs}
 use Rattle.std.proofs.Common.{inl, inr, refl}
-use Rattle.disk.specs.Time.{HasErred}
 use Rattle.vault.specs.Opened.{contents_of}
 use Rattle.cli.proofs.Copied.{reports_at}
 use Rattle.cli.proofs.Refused.{causes_carried, why_carried}
@@ -18,7 +18,7 @@ returns-in-Err g c = inl (record {
   told = refl;
   of_opening = c.in-Err.ensures.errors;
   only_reads = λ on. c.in-Err.ensures.only_reads on;
-  why = λ on. why_carried (contents_of (g.D.Disk.files c.args.disk)) (HasErred g.D.Disk.failures g.D.Disk.refusals c.args.disk c.read_live.new.disk) c.in-Err.error (c.in-Err.ensures.tells on);
-  causes = causes_carried g.D.Disk.failures g.D.Disk.refusals c.args.disk c.read_live.new.disk c.in-Err.error c.in-Err.ensures.causes;
+  why = λ on. why_carried (contents_of (g.D.Disk.files c.args.disk)) (Errs g.D.Disk c.args.disk c.read_live.new.disk) c.in-Err.error (c.in-Err.ensures.tells on);
+  causes = causes_carried g.D.Disk c.args.disk c.read_live.new.disk c.in-Err.error c.in-Err.ensures.causes;
   nothing_written = refl;
 })

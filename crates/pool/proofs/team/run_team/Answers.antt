@@ -9,7 +9,7 @@ use Rattle.pool.proofs.team.run_team.Goals as goal
 pub returns-in-Err-clause-works : goal.returns-in-Err-clause-works
 returns-in-Err-clause-works g c =
     subst (λ (back : Core g.row.D.Denot). WorksOn g.D.Disk c.args.core back c.memory-in-Err.result.full) (sym (c.into_core.ensures ∙ c.in-Err.ensures.err.0))
-    (nothing_done g.D.Disk c.stores_go_on.ensures.rest_leaves c.stores_go_on.ensures.gates_rest c.args.core c.memory-in-Err.result.full c.requires.working
+    (nothing_done g.D.Disk (λ on. (c.stores_go_on.ensures.rest on).commits) (λ on. (c.stores_go_on.ensures.gates on).rest) c.args.core c.memory-in-Err.result.full c.requires.working
     (c.is_kept.ensures.settled c.requires.working) c.is_kept.ensures.kept c.memory-in-Err.ensures.2)
 
 pub returns-clause-works : goal.returns-clause-works
@@ -26,12 +26,12 @@ returns-clause-works g c =
 
 pub returns-in_default-clause-works : goal.returns-in_default-clause-works
 returns-in_default-clause-works g c =
-    nothing_done g.D.Disk c.stores_go_on.ensures.rest_leaves c.stores_go_on.ensures.gates_rest c.args.core c.memory.result.full c.requires.working
+    nothing_done g.D.Disk (λ on. (c.stores_go_on.ensures.rest on).commits) (λ on. (c.stores_go_on.ensures.gates on).rest) c.args.core c.memory.result.full c.requires.working
     (c.is_kept.ensures.settled c.requires.working) c.is_kept.ensures.kept c.memory.ensures.2
 
 pub returns-in_default-reserve-clause-works : goal.returns-in_default-reserve-clause-works
 returns-in_default-reserve-clause-works g c =
-    nothing_done g.D.Disk c.stores_go_on.ensures.rest_leaves c.stores_go_on.ensures.gates_rest c.args.core c.memory-in_default-reserve.result.full c.requires.working
+    nothing_done g.D.Disk (λ on. (c.stores_go_on.ensures.rest on).commits) (λ on. (c.stores_go_on.ensures.gates on).rest) c.args.core c.memory-in_default-reserve.result.full c.requires.working
     (c.is_kept.ensures.settled c.requires.working) c.is_kept.ensures.kept c.memory-in_default-reserve.ensures.2
 
 pub unwrap-boss-requires : goal.unwrap-boss-requires

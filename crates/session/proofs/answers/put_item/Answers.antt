@@ -26,12 +26,12 @@ returns-clause-replies g c =
     let at = λ (event : Event) (reply : Reply). (came : List Event) × GoesOnBy g.D.Disk old new came × RepliesPut (graph old) (facts old) why event came reply in
     let replied =
     subst (λ (event : Event). at event (put_reply c.put_item-put.result)) (λ i. EnvItem c.args.address (to_z-of_z w64 c.args.value c.ranges.value i))
-    (replied_put g.D.Disk c.stores_go_on.ensures.rest_leaves c.stores_go_on.ensures.gates_rest (λ _. c.stores_go_on.ensures.append_leaves) c.stores_go_on.ensures.held_leaves
+    (replied_put g.D.Disk (λ on. (c.stores_go_on.ensures.rest on).commits) (λ on. (c.stores_go_on.ensures.gates on).rest) (λ _. c.stores_go_on.ensures.calls.append_leaves) (λ on. (c.stores_go_on.ensures.rest on).held)
     old new _ why c.is_kept.ensures.kept c.is_kept-2.ensures.kept c.is_kept.ensures.settled
     c.put_item-put.result it.commits.takes it.unchanged it.commits.refused it.commits.doubt it.commits.moments it.halts)
     in
     let cause =
-    put_cause g.D.Disk.failures g.D.Disk.refusals old new why _ (Put c.args.address c.args.value) replied.1.commits tt
+    put_cause g.D.Disk old new why _ (Put c.args.address c.args.value) replied.1.commits tt
     (λ is. subst (λ (value : ℤ). IsTooLong old (EnvItem c.args.address value)) (to_z-of_z w64 c.args.value c.ranges.value) is)
     c.put_item-put.result it.commits.takes it.commits.refused it.halts
     in
@@ -42,9 +42,9 @@ returns-clause-replies g c =
 pub returns-clause-halt : goal.returns-clause-halt
 returns-clause-halt g c =
     subst (λ (reply : Reply). (reply ≡ Halted) ↔ (is_halted c.args.core.now ≡ true)) (sym c.put_reply.ensures)
-    (put_halt g.D.Disk.failures g.D.Disk.refusals c.args.core.now c.put_item-put.new.self (RefusesItem (graph c.args.core.now) (facts c.args.core.now) c.args.address) _ c.put_item-put.result c.put_item-put.ensures.commits.takes c.put_item-put.ensures.commits.refused c.put_item-put.ensures.halts)
+    (put_halt g.D.Disk c.args.core.now c.put_item-put.new.self (RefusesItem (graph c.args.core.now) (facts c.args.core.now) c.args.address) _ c.put_item-put.result c.put_item-put.ensures.commits.takes c.put_item-put.ensures.commits.refused c.put_item-put.ensures.halts)
 
 pub returns-clause-stays : goal.returns-clause-stays
 returns-clause-stays g c =
     subst (λ (reply : Reply). stop_of reply ≡ None → is_halted c.put_item-put.new.self ≡ is_halted c.args.core.now) (sym c.put_reply.ensures)
-    (put_stays g.D.Disk.failures g.D.Disk.refusals c.args.core.now c.put_item-put.new.self (RefusesItem (graph c.args.core.now) (facts c.args.core.now) c.args.address) _ c.put_item-put.result c.put_item-put.ensures.commits.takes c.put_item-put.ensures.commits.refused c.put_item-put.ensures.halts)
+    (put_stays g.D.Disk c.args.core.now c.put_item-put.new.self (RefusesItem (graph c.args.core.now) (facts c.args.core.now) c.args.address) _ c.put_item-put.result c.put_item-put.ensures.commits.takes c.put_item-put.ensures.commits.refused c.put_item-put.ensures.halts)

@@ -22,12 +22,12 @@ returns-clause-replies g c =
     let it = c.put_tag-put.ensures in
     let why = RefusesTag (graph old) (facts old) c.args.tag in
     let replied =
-    replied_put g.D.Disk c.stores_go_on.ensures.rest_leaves c.stores_go_on.ensures.gates_rest (λ _. c.stores_go_on.ensures.append_leaves) c.stores_go_on.ensures.held_leaves
+    replied_put g.D.Disk (λ on. (c.stores_go_on.ensures.rest on).commits) (λ on. (c.stores_go_on.ensures.gates on).rest) (λ _. c.stores_go_on.ensures.calls.append_leaves) (λ on. (c.stores_go_on.ensures.rest on).held)
     old new (EnvTag c.args.tag) why c.is_kept.ensures.kept c.is_kept-2.ensures.kept c.is_kept.ensures.settled
     c.put_tag-put.result it.commits.takes it.unchanged it.commits.refused it.commits.doubt it.commits.moments it.halts
     in
     let cause =
-    put_cause g.D.Disk.failures g.D.Disk.refusals old new why (EnvTag c.args.tag) (Tag c.args.tag) replied.1.commits tt (λ is. is)
+    put_cause g.D.Disk old new why (EnvTag c.args.tag) (Tag c.args.tag) replied.1.commits tt (λ is. is)
     c.put_tag-put.result it.commits.takes it.commits.refused it.halts
     in
     subst (λ (reply : Reply). (came : List Event) × (goes : GoesOnBy g.D.Disk old new came)
@@ -37,9 +37,9 @@ returns-clause-replies g c =
 pub returns-clause-halt : goal.returns-clause-halt
 returns-clause-halt g c =
     subst (λ (reply : Reply). (reply ≡ Halted) ↔ (is_halted c.args.core.now ≡ true)) (sym c.put_reply.ensures)
-    (put_halt g.D.Disk.failures g.D.Disk.refusals c.args.core.now c.put_tag-put.new.self (RefusesTag (graph c.args.core.now) (facts c.args.core.now) c.args.tag) (EnvTag c.args.tag) c.put_tag-put.result c.put_tag-put.ensures.commits.takes c.put_tag-put.ensures.commits.refused c.put_tag-put.ensures.halts)
+    (put_halt g.D.Disk c.args.core.now c.put_tag-put.new.self (RefusesTag (graph c.args.core.now) (facts c.args.core.now) c.args.tag) (EnvTag c.args.tag) c.put_tag-put.result c.put_tag-put.ensures.commits.takes c.put_tag-put.ensures.commits.refused c.put_tag-put.ensures.halts)
 
 pub returns-clause-stays : goal.returns-clause-stays
 returns-clause-stays g c =
     subst (λ (reply : Reply). stop_of reply ≡ None → is_halted c.put_tag-put.new.self ≡ is_halted c.args.core.now) (sym c.put_reply.ensures)
-    (put_stays g.D.Disk.failures g.D.Disk.refusals c.args.core.now c.put_tag-put.new.self (RefusesTag (graph c.args.core.now) (facts c.args.core.now) c.args.tag) (EnvTag c.args.tag) c.put_tag-put.result c.put_tag-put.ensures.commits.takes c.put_tag-put.ensures.commits.refused c.put_tag-put.ensures.halts)
+    (put_stays g.D.Disk c.args.core.now c.put_tag-put.new.self (RefusesTag (graph c.args.core.now) (facts c.args.core.now) c.args.tag) (EnvTag c.args.tag) c.put_tag-put.result c.put_tag-put.ensures.commits.takes c.put_tag-put.ensures.commits.refused c.put_tag-put.ensures.halts)

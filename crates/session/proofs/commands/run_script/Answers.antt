@@ -16,7 +16,7 @@ loop-core-init g c =
     let new = c.new-progress in
     record {
       idle = c.requires.idle;
-      stands = stands_first g.D.Disk g.O.Sink.target g.O.Sink.has_failed g.O.Sink.contents c.stores_go_on.ensures.rest_leaves c.stores_go_on.ensures.gates_rest (drive_of c.args.limit (may_be_asked g.P.Probe.may_stop c.args.driver.now) (may_spawn c.args.driver.now) (is_halted c.args.core)) c.args.commands.now new.result.left.now c.args.out.now core new.result.ending new.result.failed
+      stands = stands_first g.D.Disk g.O.Sink.target g.O.Sink.has_failed g.O.Sink.contents (λ on. (c.stores_go_on.ensures.rest on).commits) (λ on. (c.stores_go_on.ensures.gates on).rest) (drive_of c.args.limit (may_be_asked g.P.Probe.may_stop c.args.driver.now) (may_spawn c.args.driver.now) (is_halted c.args.core)) c.args.commands.now new.result.left.now c.args.out.now core new.result.ending new.result.failed
           c.is_kept.ensures.kept c.is_kept.ensures.settled refl new.ensures.left new.ensures.ending new.ensures.failed;
     }
 

@@ -36,5 +36,5 @@ returns-in-Err-status-clause-answers g c =
 pub returns-in-Err-clause-answers : goal.returns-in-Err-clause-answers
 returns-in-Err-clause-answers g c = (
   same_store g.D.Disk c.args.core.now,
-  nothing_came g.D.Disk c.stores_go_on.ensures.rest_leaves c.stores_go_on.ensures.gates_rest c.args.core.now c.is_kept.ensures.kept c.is_kept.ensures.settled,
+  nothing_came g.D.Disk (λ on. (c.stores_go_on.ensures.rest on).commits) (λ on. (c.stores_go_on.ensures.gates on).rest) c.args.core.now c.is_kept.ensures.kept c.is_kept.ensures.settled,
 )

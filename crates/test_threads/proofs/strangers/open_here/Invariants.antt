@@ -7,6 +7,6 @@ ghosts-open_there g a = record {
   table = a.blank.table;
   passes = a.blank.envs + a.blank.workers;
   envs = a.blank.envs;
-  opening = opening_of g.D.Disk.files g.D.Disk.moment g.D.Disk.failures g.D.Disk.refusals a.core;
+  opening = opening_of g.D.Disk a.core;
   left = g.D.Disk.left_at a.core.vault.disk;
 }

@@ -10,7 +10,7 @@ invariant_of-self g c =
     let same : SameFacts c.self.inside.machine c.claim.new.self = of_claim _ _ c.claim.result _ c.claim.ensures.claimed c.claim.ensures.none in (
       c.self.invariant.0,
       λ honest.
-          kept_alike g.D.Disk.files g.D.Disk.moment g.D.Disk.left_at (g.met.D.Disk.at_now honest) c.self.inside.vault c.self.inside.machine c.claim.new.self (events_in c.self.inside.in_doubt) (events_in c.self.inside.latest) c.self.inside.allowance c.self.inside.allowance
+          kept_alike g.D.Disk (g.met.D.Disk.at_now honest) c.self.inside.vault c.self.inside.machine c.claim.new.self (events_in c.self.inside.in_doubt) (events_in c.self.inside.latest) c.self.inside.allowance c.self.inside.allowance
           same.graph same.environment same.facts (c.self.invariant.1 honest),
       behind_claim c.self.inside.machine c.claim.new.self c.claim.result _ c.self.inside.allowance c.claim.ensures.claimed c.claim.ensures.none (omega (arith, c.self.invariant.2, c.running.ensures)),
     )

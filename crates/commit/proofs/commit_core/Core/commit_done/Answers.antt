@@ -17,8 +17,8 @@ use Rattle.commit.proofs.commit_core.Core.commit_done.Goals as goal
 pub make_room_for-requires : goal.make_room_for-requires
 make_room_for-requires g c = subst (λ (puts : List Put). IsLegal (graph c.args.self.now) (facts c.args.self.now) (Done c.args.task puts)) (sym c.as_slice.ensures) c.requires.legal
 
-pub commit_step-requires-clause-room : goal.commit_step-requires-clause-room
-commit_step-requires-clause-room g c = subst (λ (puts : List Put). HasRoom c.make_room_for.new.self.machine puts) c.as_slice.ensures c.in-Ok.ensures.ok
+pub commit_step-requires-clause-due-ROOM : goal.commit_step-requires-clause-due-ROOM
+commit_step-requires-clause-due-ROOM g c = subst (λ (puts : List Put). HasRoom c.make_room_for.new.self.machine puts) c.as_slice.ensures c.in-Ok.ensures.ok
 
 pub returns-in-Ok-commit_step-clause-commits : goal.returns-in-Ok-commit_step-clause-commits
 returns-in-Ok-commit_step-clause-commits g c =
@@ -28,9 +28,9 @@ returns-in-Ok-commit_step-clause-commits g c =
     let event : Event = Done c.inst.result c.args.puts in
     let same : event ≡ Done c.args.task c.args.puts = λ i. Done (c.inst.ensures i) c.args.puts in
     let it = c.in-Ok-commit_step.ensures in
-    let of_mid = commits_ok g.D.Disk.files g.D.Disk.moment g.D.Disk.left_at (IsTrue g.D.Disk.is_honest) mid new event tt committed.Done it.ok it.full it.moments in
-    commits old mid c.make_room_for.ensures.same g.D.Disk.files g.D.Disk.moment g.D.Disk.left_at (IsTrue g.D.Disk.is_honest) new NoCause (Done c.args.task c.args.puts) (Ok committed.Done)
-    (subst (λ (e : Event). Commits g.D.Disk.files g.D.Disk.moment g.D.Disk.left_at (IsTrue g.D.Disk.is_honest) mid new NoCause e (Ok committed.Done)) same of_mid)
+    let of_mid = commits_ok g.D.Disk mid new event tt committed.Done it.ok it.refused.full it.moments in
+    commits old mid c.make_room_for.ensures.same g.D.Disk new NoCause (Done c.args.task c.args.puts) (Ok committed.Done)
+    (subst (λ (e : Event). Commits g.D.Disk mid new NoCause e (Ok committed.Done)) same of_mid)
 
 pub returns-in-Err-commit_step-clause-commits : goal.returns-in-Err-commit_step-clause-commits
 returns-in-Err-commit_step-clause-commits g c =
@@ -41,9 +41,9 @@ returns-in-Err-commit_step-clause-commits g c =
     let same : event ≡ Done c.args.task c.args.puts = λ i. Done (c.inst.ensures i) c.args.puts in
     let it = c.in-Err-commit_step.ensures in
     let error = c.in-Err-commit_step.error in
-    let of_mid = commits_err {T = Unit {0}} {U = committed.the_data} g.D.Disk.files g.D.Disk.moment g.D.Disk.left_at (IsTrue g.D.Disk.is_honest) mid new event error it.refused it.full it.doubt it.moments in
-    commits old mid c.make_room_for.ensures.same g.D.Disk.files g.D.Disk.moment g.D.Disk.left_at (IsTrue g.D.Disk.is_honest) new NoCause (Done c.args.task c.args.puts) (Err error)
-    (subst (λ (e : Event). Commits {T = committed.the_data} g.D.Disk.files g.D.Disk.moment g.D.Disk.left_at (IsTrue g.D.Disk.is_honest) mid new NoCause e (Err error)) same of_mid)
+    let of_mid = commits_err {T = Unit {0}} {U = committed.the_data} g.D.Disk mid new event error it.refused.refused it.refused.full it.halts.doubt it.moments in
+    commits old mid c.make_room_for.ensures.same g.D.Disk new NoCause (Done c.args.task c.args.puts) (Err error)
+    (subst (λ (e : Event). Commits {T = committed.the_data} g.D.Disk mid new NoCause e (Err error)) same of_mid)
 
 pub returns-in-Err-clause-commits : goal.returns-in-Err-clause-commits
 returns-in-Err-clause-commits g c =
@@ -53,6 +53,6 @@ returns-in-Err-clause-commits g c =
     let told = c.in-Err.ensures.err in
     let is : c.in-Err.error ≡ Store NoMemory = cc told in
     let vault : new.vault ≡ old.vault = c.release.ensures.vault ∙ c.make_room_for.ensures.same.vault in
-    refused_first g.D.Disk.files g.D.Disk.moment g.D.Disk.left_at (IsTrue g.D.Disk.is_honest) old new NoCause event c.in-Err.error
+    refused_first g.D.Disk old new NoCause event c.in-Err.error
     (subst (λ (e : CoreError). Refuses old NoCause event e) (sym is) (c.requires.working, c.requires.legal)) (λ _. inl is) (ap (λ (v : Vault g.row.D.Denot). v.halted) vault)
-    (λ honest working. rests g.D.Disk.files g.D.Disk.moment g.D.Disk.left_at old new (event ∷ []) (c.stores_go_on.ensures.held_leaves honest) (c.stores_go_on.ensures.gates_rest honest) (c.is_kept.ensures.kept honest) working vault)
+    (λ honest working. rests g.D.Disk old new (event ∷ []) ((c.stores_go_on.ensures.rest honest).held) ((c.stores_go_on.ensures.gates honest).rest) (c.is_kept.ensures.kept honest) working vault)

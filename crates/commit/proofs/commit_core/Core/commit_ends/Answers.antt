@@ -1,4 +1,4 @@
-use Rattle.std.proofs.Common.{◌≡◌, ◌∙◌, ◌-◌, ◌+◌, List, drop, false, cond, ap, length, rules, sym, subst, arith}
+use Rattle.std.proofs.Common.{◌≡◌, ◌∙◌, ◌-◌, ◌+◌, List, drop, false, cond, ap, length, refl, rules, sym, subst, arith}
 use Rattle.std.specs.List.{AllByRecursion}
 use Rattle.terms.specs.declared.name.Inst.{Inst}
 use Rattle.terms.specs.declared.event.Event.{Event}
@@ -20,20 +20,20 @@ use Rattle.commit.proofs.commit_core.Core.commit_ends.Goals as goal
 
 pub append_all-requires-clause-puts : goal.append_all-requires-clause-puts
 append_all-requires-clause-puts g c =
-    let legal = subst (λ (old : Core g.row.D.Denot). AreLegalFrom (graph old) (facts old) c.args.ends.items) (sym c.self.view_is) c.requires.legal in
+    let legal = subst (λ (old : Core g.row.D.Denot). AreLegalFrom (graph old) (facts old) c.args.ends.items) (sym c.self.view_is) c.requires.due.legal in
     subst (λ (list : List Event). AllByRecursion HasFewPuts list) (sym c.deref.ensures.value) (all_fit c.fit_in_turn.ensures c.self.inside.machine c.is_kept.ensures c.args.ends.items legal).few
 
 pub take_ends-requires-clause-legal : goal.take_ends-requires-clause-legal
 take_ends-requires-clause-legal g c =
     subst (λ (list : List Event). AreLegalFrom c.self.inside.machine.graph (facts_of c.self.inside.machine) list) (sym c.deref-in-Ok.ensures.value)
-    (subst (λ (old : Core g.row.D.Denot). AreLegalFrom (graph old) (facts old) c.args.ends.items) (sym c.self.view_is) c.requires.legal)
+    (subst (λ (old : Core g.row.D.Denot). AreLegalFrom (graph old) (facts old) c.args.ends.items) (sym c.self.view_is) c.requires.due.legal)
 
 pub invariant_of-self : goal.invariant_of-self
 invariant_of-self g c =
     let before = c.self.inside in
     let m = before.machine in
-    let working : before.vault.halted ≡ false = ap is_halted c.self.view_is ∙ c.requires.working in
-    let legal = subst (λ (old : Core g.row.D.Denot). AreLegalFrom (graph old) (facts old) c.args.ends.items) (sym c.self.view_is) c.requires.legal in
+    let working : before.vault.halted ≡ false = ap is_halted c.self.view_is ∙ c.requires.due.working in
+    let legal = subst (λ (old : Core g.row.D.Denot). AreLegalFrom (graph old) (facts old) c.args.ends.items) (sym c.self.view_is) c.requires.due.legal in
     let fit = subst (λ (list : List Event). FitAfter m.graph (facts_of m) list) (sym c.deref.ensures.value) (all_fit c.fit_in_turn.ensures m c.is_kept.ensures c.args.ends.items legal).fit in
     let takes : TakesInTurn m c.args.ends.items c.take_ends.new.self = subst (λ (list : List Event). TakesInTurn m list c.take_ends.new.self) c.deref-in-Ok.ensures.value c.take_ends.ensures.takes in (
       λ _. c.self.invariant.0 working,
@@ -41,9 +41,9 @@ invariant_of-self g c =
           let holds = (c.self.invariant.1 honest).holds working in
           let after =
           subst (λ (list : List Event). Holds g.D.Disk.files c.append_all.new.self m.graph (with_facts (environment_of m) (stated.environment list)) (with_facts (facts_of m) (stated.facts list))) c.deref.ensures.value
-          (c.in-Ok.ensures.added honest m.graph (environment_of m) (facts_of m) holds fit)
+          ((c.in-Ok.ensures.adds honest m.graph (environment_of m) (facts_of m) holds).added fit)
           in
-          kept_taken_all g.D.Disk.files g.D.Disk.moment g.D.Disk.left_at (g.met.D.Disk.at_now honest) c.taken_in_turn.ensures (c.stores_go_on.ensures.held_leaves honest)
+          kept_taken_all g.D.Disk (g.met.D.Disk.at_now honest) c.taken_in_turn.ensures ((c.stores_go_on.ensures.rest honest).held)
           c.append_all.new.self m c.take_ends.new.self c.release_all.new.self c.args.ends.items c.take_ends.new.tasks (events_in before.in_doubt) (events_in c.keep_latest.new.latest) _ takes c.release_all.ensures.back after,
       omega (arith, c.release_all.ensures.counted, c.take_ends.ensures.counted, c.self.invariant.2, c.len-count.ensures, ap length c.deref-in-Ok.ensures.value),
     )
@@ -52,8 +52,8 @@ pub invariant_of-self-in-Err : goal.invariant_of-self-in-Err
 invariant_of-self-in-Err g c =
     let before = c.self.inside in
     let m = before.machine in
-    let working : before.vault.halted ≡ false = ap is_halted c.self.view_is ∙ c.requires.working in
-    let legal = subst (λ (old : Core g.row.D.Denot). AreLegalFrom (graph old) (facts old) c.args.ends.items) (sym c.self.view_is) c.requires.legal in
+    let working : before.vault.halted ≡ false = ap is_halted c.self.view_is ∙ c.requires.due.working in
+    let legal = subst (λ (old : Core g.row.D.Denot). AreLegalFrom (graph old) (facts old) c.args.ends.items) (sym c.self.view_is) c.requires.due.legal in
     let fit = subst (λ (list : List Event). FitAfter m.graph (facts_of m) list) (sym c.deref.ensures.value) (all_fit c.fit_in_turn.ensures m c.is_kept.ensures c.args.ends.items legal).fit in
     let doubt : c.keep_in_doubt.new.in_doubt ≡ cond c.append_all.new.self.halted (Several c.args.ends) before.in_doubt = c.keep_in_doubt.ensures ∙ ap (λ h. cond h (Several c.args.ends) before.in_doubt) c.is_halted.ensures in
     let given = c.release_all-in-Err.new.self in
@@ -61,12 +61,12 @@ invariant_of-self-in-Err g c =
       λ goes. doubt ∙ ap (λ h. cond h (Several c.args.ends) before.in_doubt) goes ∙ c.self.invariant.0 working,
       λ honest.
           let holds = (c.self.invariant.1 honest).holds working in
-          kept_alike g.D.Disk.files g.D.Disk.moment g.D.Disk.left_at (g.met.D.Disk.at_now honest) c.append_all.new.self m given (events_in c.keep_in_doubt.new.in_doubt) (events_in before.latest) before.allowance before.allowance
+          kept_alike g.D.Disk (g.met.D.Disk.at_now honest) c.append_all.new.self m given (events_in c.keep_in_doubt.new.in_doubt) (events_in before.latest) before.allowance before.allowance
           back.graph back.environment back.facts
-          (kept_refused g.D.Disk.files g.D.Disk.moment g.D.Disk.left_at (g.met.D.Disk.at_now honest) (c.stores_go_on.ensures.held_leaves honest) c.stores_go_on.ensures.refused
+          (kept_refused g.D.Disk (g.met.D.Disk.at_now honest) ((c.stores_go_on.ensures.rest honest).held) c.stores_go_on.ensures.calls.refused
           before.vault c.append_all.new.self m c.deref.result.now before.in_doubt c.keep_in_doubt.new.in_doubt (events_in before.latest) before.allowance working
           (several_kept c.append_all.new.self.halted c.args.ends c.deref.result.now before.in_doubt c.keep_in_doubt.new.in_doubt c.deref.ensures.value doubt) holds c.in-Err.ensures.halting.same
-          (c.append_all.ensures.any_moment honest m.graph (environment_of m) (facts_of m) holds fit)),
+          ((c.append_all.ensures.adds honest m.graph (environment_of m) (facts_of m) holds).any_moment fit)),
       omega (arith, c.release_all-in-Err.ensures.counted, c.self.invariant.2),
     )
 
@@ -75,7 +75,7 @@ returns-in-Ok-clause-ok g c =
     let before = c.self.inside in
     let old : Core g.row.D.Denot = record { vault = before.vault; machine = before.machine; in_doubt = events_in before.in_doubt; latest = events_in before.latest; allowance = before.allowance } in
     let new : Core g.row.D.Denot = record { vault = c.append_all.new.self; machine = c.release_all.new.self; in_doubt = events_in before.in_doubt; latest = events_in c.keep_latest.new.latest; allowance = before.allowance - c.len-count.result } in
-    let working : before.vault.halted ≡ false = ap is_halted c.self.view_is ∙ c.requires.working in
+    let working : before.vault.halted ≡ false = ap is_halted c.self.view_is ∙ c.requires.due.working in
     let goes : c.append_all.new.self.halted ≡ false = search rules in
     let moved : c.append_all.new.self.journal.end ≡ before.vault.journal.end + commit_length c.deref.result.now = search rules in
     let generation : c.append_all.new.self.generation ≡ before.vault.generation = search rules in
@@ -93,34 +93,34 @@ returns-in-Ok-clause-ok g c =
       generation = generation;
     }
     in
-    subst (λ (core : Core g.row.D.Denot). TakesAll core new c.args.tasks c.args.ends.items) c.self.view_is it
+    (refl, subst (λ (core : Core g.row.D.Denot). TakesAll core new c.args.tasks c.args.ends.items) c.self.view_is it)
 
 pub returns-in-Ok-clause-moments : goal.returns-in-Ok-clause-moments
 returns-in-Ok-clause-moments g c honest =
     let before = c.self.inside in
     let m = before.machine in
-    let working : before.vault.halted ≡ false = ap is_halted c.self.view_is ∙ c.requires.working in
-    let legal = subst (λ (old : Core g.row.D.Denot). AreLegalFrom (graph old) (facts old) c.args.ends.items) (sym c.self.view_is) c.requires.legal in
+    let working : before.vault.halted ≡ false = ap is_halted c.self.view_is ∙ c.requires.due.working in
+    let legal = subst (λ (old : Core g.row.D.Denot). AreLegalFrom (graph old) (facts old) c.args.ends.items) (sym c.self.view_is) c.requires.due.legal in
     let fit = subst (λ (list : List Event). FitAfter m.graph (facts_of m) list) (sym c.deref.ensures.value) (all_fit c.fit_in_turn.ensures m c.is_kept.ensures c.args.ends.items legal).fit in
     let holds = (c.self.invariant.1 honest).holds working in
     let new : Core g.row.D.Denot = record { vault = c.append_all.new.self; machine = c.release_all.new.self; in_doubt = events_in before.in_doubt; latest = events_in c.keep_latest.new.latest; allowance = before.allowance - c.len-count.result } in
-    subst (λ (at : Core g.row.D.Denot × List Event). CrashLeaves g.D.Disk.files g.D.Disk.moment g.D.Disk.left_at at.0 new at.1) (λ i. (c.self.view_is i, c.deref.ensures.value i))
+    subst (λ (at : Core g.row.D.Denot × List Event). CrashLeaves g.D.Disk at.0 new at.1) (λ i. (c.self.view_is i, c.deref.ensures.value i))
     (record {
-      facts = c.append_all.ensures.any_moment honest m.graph (environment_of m) (facts_of m) holds fit;
-      gates = c.append_all.ensures.gates honest m.graph (environment_of m) (facts_of m) holds;
+      facts = (c.append_all.ensures.adds honest m.graph (environment_of m) (facts_of m) holds).any_moment fit;
+      gates = (c.append_all.ensures.adds honest m.graph (environment_of m) (facts_of m) holds).gates;
     })
 
 pub returns-in-Err-clause-moments : goal.returns-in-Err-clause-moments
 returns-in-Err-clause-moments g c honest =
     let before = c.self.inside in
     let m = before.machine in
-    let working : before.vault.halted ≡ false = ap is_halted c.self.view_is ∙ c.requires.working in
-    let legal = subst (λ (old : Core g.row.D.Denot). AreLegalFrom (graph old) (facts old) c.args.ends.items) (sym c.self.view_is) c.requires.legal in
+    let working : before.vault.halted ≡ false = ap is_halted c.self.view_is ∙ c.requires.due.working in
+    let legal = subst (λ (old : Core g.row.D.Denot). AreLegalFrom (graph old) (facts old) c.args.ends.items) (sym c.self.view_is) c.requires.due.legal in
     let fit = subst (λ (list : List Event). FitAfter m.graph (facts_of m) list) (sym c.deref.ensures.value) (all_fit c.fit_in_turn.ensures m c.is_kept.ensures c.args.ends.items legal).fit in
     let holds = (c.self.invariant.1 honest).holds working in
     let new : Core g.row.D.Denot = record { vault = c.append_all.new.self; machine = c.release_all-in-Err.new.self; in_doubt = events_in c.keep_in_doubt.new.in_doubt; latest = events_in before.latest; allowance = before.allowance } in
-    subst (λ (at : Core g.row.D.Denot × List Event). CrashLeaves g.D.Disk.files g.D.Disk.moment g.D.Disk.left_at at.0 new at.1) (λ i. (c.self.view_is i, c.deref.ensures.value i))
+    subst (λ (at : Core g.row.D.Denot × List Event). CrashLeaves g.D.Disk at.0 new at.1) (λ i. (c.self.view_is i, c.deref.ensures.value i))
     (record {
-      facts = c.append_all.ensures.any_moment honest m.graph (environment_of m) (facts_of m) holds fit;
-      gates = c.append_all.ensures.gates honest m.graph (environment_of m) (facts_of m) holds;
+      facts = (c.append_all.ensures.adds honest m.graph (environment_of m) (facts_of m) holds).any_moment fit;
+      gates = (c.append_all.ensures.adds honest m.graph (environment_of m) (facts_of m) holds).gates;
     })

@@ -14,31 +14,31 @@ not_of_text is = cc
 
 pub returns-in-Ok-made-clause-created : goal.returns-in-Ok-made-clause-created
 returns-in-Ok-made-clause-created g c =
-    let it = c.in-Ok-made.ensures in
-    record { reads = subst (λ (h : Graph). Reads c.args.text.now h) (sym it.graph) c.in-Ok.ensures.reads; facts = it.facts; environment = it.environment; opened = it.opened; generation = it.generation; gates = it.gates }
+    let it = c.in-Ok-made.ensures.core in
+    record { reads = subst (λ (h : Graph). Reads c.args.text.now h) (sym it.graph) c.in-Ok.ensures.reads; facts = it.facts; environment = it.environment; opened = it.opened; generation = it.generation; gates = c.in-Ok-made.ensures.gates }
 
 pub returns-in-Ok-made-clause-others : goal.returns-in-Ok-made-clause-others
-returns-in-Ok-made-clause-others g c honest = others_ok _ _ _ _ _ (c.in-Ok-made.ensures.others honest)
+returns-in-Ok-made-clause-others g c honest = others_ok _ _ _ (c.in-Ok-made.ensures.others honest)
 
 pub returns-in-Ok-clause-refused : goal.returns-in-Ok-clause-refused
-returns-in-Ok-clause-refused g c = ((c.in-Ok.graph, c.in-Ok.ensures.reads), c.in-Err-made.ensures.errors)
+returns-in-Ok-clause-refused g c = ((c.in-Ok.graph, c.in-Ok.ensures.reads), c.in-Err-made.ensures.refused.errors)
 
 pub returns-in-Ok-clause-others : goal.returns-in-Ok-clause-others
-returns-in-Ok-clause-others g c honest = others _ _ _ _ _ (c.in-Err-made.ensures.others honest)
+returns-in-Ok-clause-others g c honest = others _ _ _ (c.in-Err-made.ensures.others honest)
 
 pub returns-in-Ok-clause-causes : goal.returns-in-Ok-clause-causes
-returns-in-Ok-clause-causes g c = causes _ _ _ _ c.in-Err-made.ensures.causes
+returns-in-Ok-clause-causes g c = causes _ _ _ c.in-Err-made.ensures.refused.causes
 
 pub returns-clause-others : goal.returns-clause-others
 returns-clause-others g c honest = record {
   were_empty = tt;
   exists = λ is. absurd (not_of_text is);
   kept = λ some has side. refl;
-  moments = λ some has. untouched g.D.Disk.files g.D.Disk.moment g.D.Disk.left_at (g.met.D.Disk.at_now honest) c.args.disk;
+  moments = λ some has. untouched g.D.Disk (g.met.D.Disk.at_now honest) c.args.disk;
 }
 
 pub returns-clause-begins : goal.returns-clause-begins
-returns-clause-begins g c honest empty = left_empty g.D.Disk.files g.D.Disk.moment g.D.Disk.left_at (g.met.D.Disk.at_now honest) c.args.disk empty
+returns-clause-begins g c honest empty = left_empty g.D.Disk (g.met.D.Disk.at_now honest) c.args.disk empty
 
 pub returns-clause-causes : goal.returns-clause-causes
-returns-clause-causes g c = unasked _ _ _ _ _ c.args.disk not_of_text
+returns-clause-causes g c = unasked _ _ _ _ c.args.disk not_of_text

@@ -48,12 +48,12 @@ returns-in-Ok-Done-clause-ends g c =
     in
     let event : Event = Done c.args.task c.args.puts in
     let commits =
-    subst (λ (core : Core g.row.D.Denot). Commits {T = committed.the_data} g.D.Disk.files g.D.Disk.moment g.D.Disk.left_at (IsTrue g.D.Disk.is_honest) core c.commit_done.new.self NoCause event c.commit_done.result) (looked ∙ c.self.view_is) c.commit_done.ensures.commits
+    subst (λ (core : Core g.row.D.Denot). Commits {T = committed.the_data} g.D.Disk core c.commit_done.new.self NoCause event c.commit_done.result) (looked ∙ c.self.view_is) c.commit_done.ensures.commits
     in
     record {
       end = event;
       is_end = inl refl;
-      commits = with_cause g.D.Disk.files g.D.Disk.moment g.D.Disk.left_at (IsTrue g.D.Disk.is_honest) old c.commit_done.new.self (RefusesEnd (facts old)) event c.commit_done.result commits;
+      commits = with_cause g.D.Disk old c.commit_done.new.self (RefusesEnd (facts old)) event c.commit_done.result commits;
       told = if_ok c.commit_done.result (λ (told : Committed). told ≡ committed.Done) (λ (told : Committed). Tells told event) (λ told is. subst (λ (t : Committed). Tells t event) (sym is) (c.args.task, c.args.puts, refl)) c.commit_done.ensures.told;
     }
 
@@ -67,12 +67,12 @@ returns-in-Ok-DoublePut-clause-ends g c =
     in
     let event : Event = Stopped c.args.task DoublePut in
     let commits =
-    subst (λ (core : Core g.row.D.Denot). Commits {T = committed.the_data} g.D.Disk.files g.D.Disk.moment g.D.Disk.left_at (IsTrue g.D.Disk.is_honest) core c.commit_fault.new.self NoCause event c.commit_fault.result) (looked ∙ c.self.view_is) c.commit_fault.ensures.commits
+    subst (λ (core : Core g.row.D.Denot). Commits {T = committed.the_data} g.D.Disk core c.commit_fault.new.self NoCause event c.commit_fault.result) (looked ∙ c.self.view_is) c.commit_fault.ensures.commits
     in
     record {
       end = event;
       is_end = inr refl;
-      commits = with_cause g.D.Disk.files g.D.Disk.moment g.D.Disk.left_at (IsTrue g.D.Disk.is_honest) old c.commit_fault.new.self (RefusesEnd (facts old)) event c.commit_fault.result commits;
+      commits = with_cause g.D.Disk old c.commit_fault.new.self (RefusesEnd (facts old)) event c.commit_fault.result commits;
       told = if_ok c.commit_fault.result (λ (told : Committed). told ≡ committed.Stopped DoublePut) (λ (told : Committed). Tells told event) (λ told is. subst (λ (t : Committed). Tells t event) (sym is) (c.args.task, refl)) c.commit_fault.ensures.told;
     }
 
@@ -88,8 +88,8 @@ returns-in-Err-clause-ends g c =
       end = event;
       is_end = inl refl;
       commits =
-          refused_first g.D.Disk.files g.D.Disk.moment g.D.Disk.left_at (IsTrue g.D.Disk.is_honest) old new (RefusesEnd (facts old)) event (Refused c.in-Err.refusal)
+          refused_first g.D.Disk old new (RefusesEnd (facts old)) event (Refused c.in-Err.refusal)
           (c.requires.working, why) (λ legal. absurd (illegal legal)) (ap (λ (v : Vault g.row.D.Denot). v.halted) vault)
-          (λ honest working. rests g.D.Disk.files g.D.Disk.moment g.D.Disk.left_at old new (event ∷ []) (c.stores_go_on.ensures.held_leaves honest) (c.stores_go_on.ensures.gates_rest honest) (c.is_kept.ensures.kept honest) working vault);
+          (λ honest working. rests g.D.Disk old new (event ∷ []) ((c.stores_go_on.ensures.rest honest).held) ((c.stores_go_on.ensures.gates honest).rest) (c.is_kept.ensures.kept honest) working vault);
       told = tt;
     }

@@ -8,8 +8,8 @@ use Rattle.commit.proofs.Roomy.{halts}
 use Rattle.commit.proofs.Together.{all_run, finishes, gives_back, halts_first, refused_first, run_after, tried_within}
 use Rattle.commit.proofs.commit_core.Core.end_all.Goals as goal
 
-pub commit_ends-answer-requires-clause-running : goal.commit_ends-answer-requires-clause-running
-commit_ends-answer-requires-clause-running g c =
+pub commit_ends-answer-requires-clause-tasks-RUNNING : goal.commit_ends-answer-requires-clause-tasks-RUNNING
+commit_ends-answer-requires-clause-tasks-RUNNING g c =
     run_after c.args.self.now c.make_ready_for_ends.new.self c.make_ready_for_ends.ensures.same c.args.tasks (each_runs c.args.self.now.machine c.args.ends.items c.args.tasks c.requires.ended c.requires.here)
 
 pub release_all-requires : goal.release_all-requires
@@ -28,20 +28,20 @@ returns-in-Ok g c =
     let looked = c.in-Ok.ensures.together in
     let of_ends : IsOfEnds c.args.ends.items commit = subst (λ (list : List Event). IsOfEnds c.args.ends.items list) (sym looked.1) (c.cut_in_turn.ensures old.machine c.args.ends.items c.in-Ok.ended c.requires.here looked.0) in
     let counted : length c.args.ends.items ≡ length c.args.tasks = as_many old.machine c.args.ends.items c.args.tasks c.requires.ended c.requires.here in
-    let done = finishes old mid room g.D.Disk.files g.D.Disk.moment g.D.Disk.left_at (IsTrue g.D.Disk.is_honest) new c.args.tasks c.args.ends.items c.in-Ok.ended commit result looked.0 looked.1 (of_ends.some c.requires.some)
-    it.ok it.told it.refused it.full it.doubt it.moments
+    let done = finishes old mid room g.D.Disk new c.args.tasks c.args.ends.items c.in-Ok.ended commit result looked.0 looked.1 (of_ends.some c.requires.some)
+    it.ok it.refused.refused it.refused.full it.halts.doubt it.moments
     in
     let back = on_err result (GivesBackAll mid new c.args.tasks) (GivesBackAll old new c.args.tasks) (gives_back old mid room new c.args.tasks) it.err in
-    let halting = halts old mid room g.D.Disk.failures g.D.Disk.refusals new result it.halts in
+    let halting = halts old mid room g.D.Disk new result it.halts.halts in
     record {
       finishes = done;
       err = back;
       halts = halting;
       runs = λ working.
           all_run g.D.Disk c.taken_in_turn.ensures c.cut_in_turn.ensures
-          (λ _. c.stores_go_on.ensures.append_leaves) c.stores_go_on.ensures.held_leaves c.stores_go_on.ensures.rest_leaves c.stores_go_on.ensures.gates_rest
+          (λ _. c.stores_go_on.ensures.calls.append_leaves) (λ on. (c.stores_go_on.ensures.rest on).held) (λ on. (c.stores_go_on.ensures.rest on).commits) (λ on. (c.stores_go_on.ensures.gates on).rest)
           old new c.args.tasks c.args.ends.items result working (c.is_kept.ensures.settled working) c.requires.here c.is_kept.ensures.kept c.is_kept-in-Ok.ensures.kept done
-          (tried_within old mid room g.D.Disk.files g.D.Disk.moment g.D.Disk.left_at (IsTrue g.D.Disk.is_honest) new c.args.tasks c.args.ends.items c.in-Ok.ended commit result looked.0 looked.1 (of_ends.some c.requires.some) it.ok it.told it.refused it.full it.doubt it.moments
+          (tried_within old mid room g.D.Disk new c.args.tasks c.args.ends.items c.in-Ok.ended commit result looked.0 looked.1 (of_ends.some c.requires.some) it.ok it.refused.refused it.refused.full it.halts.doubt it.moments
           of_ends.few counted it.within)
           back halting;
     }
@@ -54,17 +54,17 @@ returns-in-Err g c =
     let room = c.make_ready_for_ends.ensures.same in
     let error = c.in-Err.error in
     let why = c.in-Err.ensures.refused in
-    let done = refused_first old mid room g.D.Disk.files g.D.Disk.moment g.D.Disk.left_at (IsTrue g.D.Disk.is_honest) new c.args.tasks c.args.ends.items error why c.release_all.ensures.vault
-    c.stores_go_on.ensures.held_leaves c.stores_go_on.ensures.gates_rest c.is_kept.ensures.kept
+    let done = refused_first old mid room g.D.Disk new c.args.tasks c.args.ends.items error why c.release_all.ensures.vault
+    (λ on. (c.stores_go_on.ensures.rest on).held) (λ on. (c.stores_go_on.ensures.gates on).rest) c.is_kept.ensures.kept
     in
     let back = gives_back old mid room new c.args.tasks c.release_all.ensures.back in
-    let halting = halts_first g.D.Disk.failures g.D.Disk.refusals old new error why (c.release_all.ensures.vault ∙ room.vault) (c.release_all.ensures.in_doubt ∙ room.in_doubt) in
+    let halting = halts_first g.D.Disk old new error why (c.release_all.ensures.vault ∙ room.vault) (c.release_all.ensures.in_doubt ∙ room.in_doubt) in
     record {
       finishes = done;
       err = back;
       halts = halting;
       runs = λ working.
           all_run g.D.Disk c.taken_in_turn.ensures c.cut_in_turn.ensures
-          (λ _. c.stores_go_on.ensures.append_leaves) c.stores_go_on.ensures.held_leaves c.stores_go_on.ensures.rest_leaves c.stores_go_on.ensures.gates_rest
+          (λ _. c.stores_go_on.ensures.calls.append_leaves) (λ on. (c.stores_go_on.ensures.rest on).held) (λ on. (c.stores_go_on.ensures.rest on).commits) (λ on. (c.stores_go_on.ensures.gates on).rest)
           old new c.args.tasks c.args.ends.items (Err error) working (c.is_kept.ensures.settled working) c.requires.here c.is_kept.ensures.kept c.is_kept-in-Err.ensures.kept done (omega arith) back halting;
     }

@@ -23,7 +23,7 @@ invariant_of-self g c =
     let same : SameFacts c.self.inside.machine c.release.new.self = of_move _ _ _ _ c.release.ensures in (
       c.self.invariant.0,
       λ honest.
-          kept_alike g.D.Disk.files g.D.Disk.moment g.D.Disk.left_at (g.met.D.Disk.at_now honest) c.self.inside.vault c.self.inside.machine c.release.new.self (events_in c.self.inside.in_doubt) (events_in c.self.inside.latest) c.self.inside.allowance c.self.inside.allowance
+          kept_alike g.D.Disk (g.met.D.Disk.at_now honest) c.self.inside.vault c.self.inside.machine c.release.new.self (events_in c.self.inside.in_doubt) (events_in c.self.inside.latest) c.self.inside.allowance c.self.inside.allowance
           same.graph same.environment same.facts (c.self.invariant.1 honest),
       behind_move c.self.inside.machine c.release.new.self c.args.task Ready c.self.inside.allowance refl c.release.ensures c.self.invariant.2,
     )
@@ -48,7 +48,7 @@ returns-in-Gave g c =
     let new = c.end-ended.new.self in
     let left = some_left c.runs_are_counted.ensures.one old.machine c.args.task old.allowance c.requires.running c.is_kept.ensures.allowed in
     let finishes =
-    of_given g.D.Disk.files g.D.Disk.moment g.D.Disk.left_at (IsTrue g.D.Disk.is_honest) old new c.args.task c.args.outcome c.end-ended.result
+    of_given g.D.Disk old new c.args.task c.args.outcome c.end-ended.result
     c.in-Gave.given c.into_puts.result c.in-Gave.is c.into_puts.ensures.puts c.end-ended.ensures.ends
     in
     record {
@@ -57,7 +57,7 @@ returns-in-Gave g c =
       halts = c.end-ended.ensures.halts;
       runs = λ working.
           finished g.D.Disk
-          (λ _. c.stores_go_on.ensures.append_leaves) c.stores_go_on.ensures.held_leaves c.stores_go_on.ensures.rest_leaves c.stores_go_on.ensures.gates_rest
+          (λ _. c.stores_go_on.ensures.calls.append_leaves) (λ on. (c.stores_go_on.ensures.rest on).held) (λ on. (c.stores_go_on.ensures.rest on).commits) (λ on. (c.stores_go_on.ensures.gates on).rest)
           old new c.args.task c.args.outcome c.end-ended.result
           working (c.is_kept.ensures.settled working) left c.is_kept.ensures.kept finishes c.end-ended.ensures.err c.end-ended.ensures.halts c.is_kept-in-Gave.ensures.kept;
     }
@@ -68,7 +68,7 @@ returns-in-Fault g c =
     let new = c.stop-ended.new.self in
     let left = some_left c.runs_are_counted.ensures.one old.machine c.args.task old.allowance c.requires.running c.is_kept.ensures.allowed in
     let finishes =
-    of_fault g.D.Disk.files g.D.Disk.moment g.D.Disk.left_at (IsTrue g.D.Disk.is_honest) old new c.args.task c.args.outcome c.stop-ended.result
+    of_fault g.D.Disk old new c.args.task c.args.outcome c.stop-ended.result
     c.in-Fault.bad c.kind.result c.in-Fault.is c.kind.ensures.kind c.stop-ended.ensures.commits c.stop-ended.ensures.told
     in
     record {
@@ -77,7 +77,7 @@ returns-in-Fault g c =
       halts = c.stop-ended.ensures.halts;
       runs = λ working.
           finished g.D.Disk
-          (λ _. c.stores_go_on.ensures.append_leaves) c.stores_go_on.ensures.held_leaves c.stores_go_on.ensures.rest_leaves c.stores_go_on.ensures.gates_rest
+          (λ _. c.stores_go_on.ensures.calls.append_leaves) (λ on. (c.stores_go_on.ensures.rest on).held) (λ on. (c.stores_go_on.ensures.rest on).commits) (λ on. (c.stores_go_on.ensures.gates on).rest)
           old new c.args.task c.args.outcome c.stop-ended.result
           working (c.is_kept.ensures.settled working) left c.is_kept.ensures.kept finishes c.stop-ended.ensures.err c.stop-ended.ensures.halts c.is_kept-in-Fault.ensures.kept;
     }

@@ -1,4 +1,4 @@
-use Rattle.std.proofs.Common.{◌≡◌, [], refl, Result, Err}
+use Rattle.std.proofs.Common.{◌≡◌, [], inl, inr, refl, Result, Err}
 use Rattle.vault.specs.declared.error.VaultError.{VaultError}
 use Rattle.vault.specs.declared.error.VaultError.TheVariants.{Device, NoMemory, Exists}
 use Rattle.machine.specs.Machine.{environment as environment_of, facts as facts_of}
@@ -14,7 +14,7 @@ invariant_of-result g c =
     let vault = c.in-Ok-create.vault in (
       λ _. refl,
       λ honest.
-          kept g.D.Disk.files g.D.Disk.moment g.D.Disk.left_at (g.met.D.Disk.at_now honest) (c.stores_go_on.ensures.held_leaves honest) vault m [] [] 1000000000
+          kept g.D.Disk (g.met.D.Disk.at_now honest) ((c.stores_go_on.ensures.rest honest).held) vault m [] [] 1000000000
           (holds_alike g.D.Disk.files vault c.args.graph m.graph nothing (environment_of m) nothing (facts_of m) c.in-Ok.ensures.graph c.in-Ok.ensures.environment c.in-Ok.ensures.facts
           ((c.in-Ok-create.ensures.created honest).holds c.args.graph c.requires.reads c.requires.spelled)),
       of_created m 1000000000 c.are_counted.ensures c.in-Ok.ensures.instances,
@@ -34,28 +34,30 @@ not_there is = cc
 pub returns-in-Ok-create-clause-others : goal.returns-in-Ok-create-clause-others
 returns-in-Ok-create-clause-others g c honest = let it = c.in-Ok-create.ensures.non_empty honest in record { were_empty = it.were_empty; exists = λ is. absurd (cc is); kept = it.kept; moments = it.moments }
 
-pub returns-in-Ok-create-clause-causes : goal.returns-in-Ok-create-clause-causes
-returns-in-Ok-create-clause-causes g c = made _ _ _ _ _ _ c.in-Ok-create.ensures.causes
+pub returns-in-Ok-create-clause-refused : goal.returns-in-Ok-create-clause-refused
+returns-in-Ok-create-clause-refused g c = record { errors = tt; causes = made _ _ _ _ _ c.in-Ok-create.ensures.refused.causes; grown_first = λ is. absurd (cc is) }
 
 pub returns-in-Err-create-clause-others : goal.returns-in-Err-create-clause-others
 returns-in-Err-create-clause-others g c honest = let it = c.in-Err-create.ensures.non_empty honest in record { were_empty = tt; exists = λ is. it.exists (same_error is); kept = it.kept; moments = it.moments }
 
-pub returns-in-Err-create-clause-causes : goal.returns-in-Err-create-clause-causes
-returns-in-Err-create-clause-causes g c = refused_alike _ _ _ _ _ _ c.in-Err-create.ensures.causes
+pub returns-in-Err-create-clause-refused : goal.returns-in-Err-create-clause-refused
+returns-in-Err-create-clause-refused g c =
+    let it = c.in-Err-create.ensures.refused in
+    record { errors = it.errors; causes = refused_alike _ _ _ _ _ it.causes; grown_first = λ is. it.grown_first (same_error is) }
 
 pub returns-in-Err-clause-others : goal.returns-in-Err-clause-others
 returns-in-Err-clause-others g c honest = record {
   were_empty = tt;
   exists = λ is. absurd (not_there is);
   kept = λ some has side. refl;
-  moments = λ some has. untouched g.D.Disk.files g.D.Disk.moment g.D.Disk.left_at (g.met.D.Disk.at_now honest) c.args.disk;
+  moments = λ some has. untouched g.D.Disk (g.met.D.Disk.at_now honest) c.args.disk;
 }
 
 pub returns-in-Err-clause-begins : goal.returns-in-Err-clause-begins
-returns-in-Err-clause-begins g c honest empty = left_empty g.D.Disk.files g.D.Disk.moment g.D.Disk.left_at (g.met.D.Disk.at_now honest) c.args.disk empty
+returns-in-Err-clause-begins g c honest empty = left_empty g.D.Disk (g.met.D.Disk.at_now honest) c.args.disk empty
 
-pub returns-in-Err-clause-causes : goal.returns-in-Err-clause-causes
-returns-in-Err-clause-causes g c = unasked _ _ _ _ _ c.args.disk not_failed
+pub returns-in-Err-clause-refused : goal.returns-in-Err-clause-refused
+returns-in-Err-clause-refused g c = record { errors = inr (inl refl); causes = unasked _ _ _ _ c.args.disk not_failed; grown_first = λ is same. refl }
 
 pub returns-in-Ok-create-clause-gates : goal.returns-in-Ok-create-clause-gates
 returns-in-Ok-create-clause-gates g c honest = let it = c.in-Ok-create.ensures.created honest in at_rest_gates g.D.Disk.files c.in-Ok-create.vault.disk _ it.a it.b

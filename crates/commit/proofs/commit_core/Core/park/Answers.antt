@@ -19,7 +19,7 @@ invariant_of-self g c =
     let same : SameFacts c.self.inside.machine c.release.new.self = of_move _ _ _ _ c.release.ensures in (
       c.self.invariant.0,
       λ honest.
-          kept_alike g.D.Disk.files g.D.Disk.moment g.D.Disk.left_at (g.met.D.Disk.at_now honest) c.self.inside.vault c.self.inside.machine c.release.new.self (events_in c.self.inside.in_doubt) (events_in c.self.inside.latest) c.self.inside.allowance c.self.inside.allowance
+          kept_alike g.D.Disk (g.met.D.Disk.at_now honest) c.self.inside.vault c.self.inside.machine c.release.new.self (events_in c.self.inside.in_doubt) (events_in c.self.inside.latest) c.self.inside.allowance c.self.inside.allowance
           same.graph same.environment same.facts (c.self.invariant.1 honest),
       behind_move c.self.inside.machine c.release.new.self c.args.task Ready c.self.inside.allowance refl c.release.ensures c.self.invariant.2,
     )
@@ -29,7 +29,7 @@ invariant_of-self-2 g c =
     let same : SameFacts c.self.inside.machine c.park.new.self = of_look _ _ _ _ c.in_default.ensures.ok in (
       c.self.invariant.0,
       λ honest.
-          kept_alike g.D.Disk.files g.D.Disk.moment g.D.Disk.left_at (g.met.D.Disk.at_now honest) c.self.inside.vault c.self.inside.machine c.park.new.self (events_in c.self.inside.in_doubt) (events_in c.self.inside.latest) c.self.inside.allowance c.self.inside.allowance
+          kept_alike g.D.Disk (g.met.D.Disk.at_now honest) c.self.inside.vault c.self.inside.machine c.park.new.self (events_in c.self.inside.in_doubt) (events_in c.self.inside.latest) c.self.inside.allowance c.self.inside.allowance
           same.graph same.environment same.facts (c.self.invariant.1 honest),
       behind_look c.self.inside.machine c.park.new.self c.args.task _ c.self.inside.allowance c.in_default.ensures.ok c.self.invariant.2,
     )
@@ -39,7 +39,7 @@ invariant_of-self-in-Err g c =
     let same : SameFacts c.self.inside.machine c.park.new.self = of_move _ _ _ _ c.in-Err.ensures.refused.1 in (
       c.self.invariant.0,
       λ honest.
-          kept_alike g.D.Disk.files g.D.Disk.moment g.D.Disk.left_at (g.met.D.Disk.at_now honest) c.self.inside.vault c.self.inside.machine c.park.new.self (events_in c.self.inside.in_doubt) (events_in c.self.inside.latest) c.self.inside.allowance c.self.inside.allowance
+          kept_alike g.D.Disk (g.met.D.Disk.at_now honest) c.self.inside.vault c.self.inside.machine c.park.new.self (events_in c.self.inside.in_doubt) (events_in c.self.inside.latest) c.self.inside.allowance c.self.inside.allowance
           same.graph same.environment same.facts (c.self.invariant.1 honest),
       behind_move c.self.inside.machine c.park.new.self c.args.task Ready c.self.inside.allowance refl c.in-Err.ensures.refused.1 c.self.invariant.2,
     )

@@ -26,8 +26,8 @@ returns-then-count-eq0 g c =
       together = λ _. looked;
       told = refl;
       tries = nothing_tried g.D.Disk core working (c.is_kept.ensures.settled working)
-          c.stores_go_on.ensures.held_leaves c.stores_go_on.ensures.gates_rest c.is_kept.ensures.kept;
-      goes_on = nothing_came g.D.Disk c.stores_go_on.ensures.rest_leaves c.stores_go_on.ensures.gates_rest core c.is_kept.ensures.kept c.is_kept.ensures.settled;
+          (λ on. (c.stores_go_on.ensures.rest on).held) (λ on. (c.stores_go_on.ensures.gates on).rest) c.is_kept.ensures.kept;
+      goes_on = nothing_came g.D.Disk (λ on. (c.stores_go_on.ensures.rest on).commits) (λ on. (c.stores_go_on.ensures.gates on).rest) core c.is_kept.ensures.kept c.is_kept.ensures.settled;
     }
 
 pub returns : goal.returns
@@ -52,6 +52,6 @@ returns g c =
       together = λ _. looked;
       told = if_ok result (λ answer. answer ≡ length commit) (λ answer. answer ≡ count) (λ answer is. is ∙ ap (λ (list : List Event). length list) same ∙ many) c.put_together-answer.ensures.told;
       tries = tried;
-      goes_on = puts_go_on g.D.Disk c.taken_in_turn.ensures (λ _. c.stores_go_on.ensures.append_leaves) c.stores_go_on.ensures.held_leaves
-          c.stores_go_on.ensures.rest_leaves c.stores_go_on.ensures.gates_rest old new (take count puts) result some looked.legal c.is_kept.ensures.settled c.is_kept.ensures.kept c.is_kept-2.ensures.kept tried;
+      goes_on = puts_go_on g.D.Disk c.taken_in_turn.ensures (λ _. c.stores_go_on.ensures.calls.append_leaves) (λ on. (c.stores_go_on.ensures.rest on).held)
+          (λ on. (c.stores_go_on.ensures.rest on).commits) (λ on. (c.stores_go_on.ensures.gates on).rest) old new (take count puts) result some looked.legal c.is_kept.ensures.settled c.is_kept.ensures.kept c.is_kept-2.ensures.kept tried;
     }

@@ -18,7 +18,7 @@ returns-in-Ok g c =
     let put = c.commit_put.ensures in
     subst (λ (e : Event). CommitsAs g.D.Disk old c.commit_put.new.self why e c.commit_put.result) (λ i. EnvItem c.args.addr (to_z-of_z w64 c.args.value c.ranges.value i))
     (put_as g.D.Disk old mid c.make_ready_for_item.ensures.same c.commit_put.new.self why (EnvItem c.args.addr (to_z w64 (of_z w64 c.args.value))) c.commit_put.result
-    put.ok put.err put.refused put.full put.halts put.doubt put.moments)
+    put.ok put.err put.refused.refused put.refused.full put.halts.halts put.halts.doubt put.moments)
 
 pub returns-in-Err : goal.returns-in-Err
 returns-in-Err g c =
@@ -27,4 +27,4 @@ returns-in-Err g c =
     let why = RefusesItem (graph old) (facts old) c.args.addr in
     refused_as g.D.Disk old mid c.make_ready_for_item.ensures.same why (EnvItem c.args.addr c.args.value) c.in-Err.error (illegal_item (graph old) (facts old) c.args.addr c.args.value)
     (subst (λ (e : Event). RefusesFirst old why e c.in-Err.error) (λ i. EnvItem c.args.addr (to_z-of_z w64 c.args.value c.ranges.value i)) c.in-Err.ensures.refused)
-    c.stores_go_on.ensures.held_leaves c.stores_go_on.ensures.gates_rest c.is_kept.ensures.kept
+    (λ on. (c.stores_go_on.ensures.rest on).held) (λ on. (c.stores_go_on.ensures.gates on).rest) c.is_kept.ensures.kept

@@ -10,10 +10,10 @@ returns-in-Ok g c =
     let old = c.args.self.now in
     let put = c.commit_put.ensures in
     put_as g.D.Disk old c.make_ready_for_tag.new.self c.make_ready_for_tag.ensures.same c.commit_put.new.self (RefusesTag (graph old) (facts old) c.args.tag) (EnvTag c.args.tag) c.commit_put.result
-    put.ok put.err put.refused put.full put.halts put.doubt put.moments
+    put.ok put.err put.refused.refused put.refused.full put.halts.halts put.halts.doubt put.moments
 
 pub returns-in-Err : goal.returns-in-Err
 returns-in-Err g c =
     let old = c.args.self.now in
     refused_as g.D.Disk old c.make_ready_for_tag.new.self c.make_ready_for_tag.ensures.same (RefusesTag (graph old) (facts old) c.args.tag) (EnvTag c.args.tag) c.in-Err.error
-    (illegal_tag (graph old) (facts old) c.args.tag) c.in-Err.ensures.refused c.stores_go_on.ensures.held_leaves c.stores_go_on.ensures.gates_rest c.is_kept.ensures.kept
+    (illegal_tag (graph old) (facts old) c.args.tag) c.in-Err.ensures.refused (λ on. (c.stores_go_on.ensures.rest on).held) (λ on. (c.stores_go_on.ensures.gates on).rest) c.is_kept.ensures.kept

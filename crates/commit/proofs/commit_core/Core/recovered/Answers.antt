@@ -14,7 +14,7 @@ invariant_of-result g c =
     let m = c.in-Ok.machine in (
       λ _. refl,
       λ honest.
-          kept g.D.Disk.files g.D.Disk.moment g.D.Disk.left_at (g.met.D.Disk.at_now honest) (c.stores_go_on.ensures.held_leaves honest) recovered.vault m [] [] 1000000000
+          kept g.D.Disk (g.met.D.Disk.at_now honest) ((c.stores_go_on.ensures.rest honest).held) recovered.vault m [] [] 1000000000
           (holds_alike g.D.Disk.files recovered.vault recovered.graph m.graph (environment_in (image_of recovered.holdings)) (environment_of m) (facts_in (image_of recovered.holdings)) (facts_of m) c.in-Ok.ensures.graph
           (λ fact. sym (c.in-Ok.ensures.lists.environment fact)) (λ fact. sym (c.in-Ok.ensures.lists.facts fact)) (c.requires.holds honest)),
       of_opened m 1000000000 c.are_counted.ensures c.in-Ok.ensures.instances,

@@ -4,5 +4,5 @@ use Rattle.commit.proofs.commit_core.Core.run_allowed.Goals as goal
 
 pub returns-in-Err-clause-runs : goal.returns-in-Err-clause-runs
 returns-in-Err-clause-runs g c =
-    as_it_was g.D.Disk c.stores_go_on.ensures.rest_leaves c.stores_go_on.ensures.gates_rest c.args.self.now c.requires.working
+    as_it_was g.D.Disk (λ on. (c.stores_go_on.ensures.rest on).commits) (λ on. (c.stores_go_on.ensures.gates on).rest) c.args.self.now c.requires.working
     (c.is_kept.ensures.settled c.requires.working) c.is_kept.ensures.kept

@@ -6,7 +6,7 @@ use Rattle.commit.proofs.Driven.{begins, claims_none, driven_on, of_claim, runs_
 use Rattle.commit.proofs.commit_core.Core.run_to_end.Goals as goal
 
 pub loop-alloc-init : goal.loop-alloc-init
-loop-alloc-init g c = begins g.D.Disk c.facts_are_told_apart.ensures.among c.stores_go_on.ensures.gates_stay c.stores_go_on.ensures.rest_leaves c.stores_go_on.ensures.gates_rest c.args.graph.now c.args.self.now c.requires.graph c.requires.idle c.requires.working (c.is_kept.ensures.settled c.requires.working) c.is_kept.ensures.kept
+loop-alloc-init g c = begins g.D.Disk c.facts_are_told_apart.ensures.among (λ on. (c.stores_go_on.ensures.gates on).stay) (λ on. (c.stores_go_on.ensures.rest on).commits) (λ on. (c.stores_go_on.ensures.gates on).rest) c.args.graph.now c.args.self.now c.requires.graph c.requires.idle c.requires.working (c.is_kept.ensures.settled c.requires.working) c.is_kept.ensures.kept
 
 pub run_task-requires-clause-no_fault : goal.run_task-requires-clause-no_fault
 run_task-requires-clause-no_fault g c instance kind =
@@ -15,18 +15,18 @@ run_task-requires-clause-no_fault g c instance kind =
 
 pub returns-in-Ok-true-clause-runs : goal.returns-in-Ok-true-clause-runs
 returns-in-Ok-true-clause-runs g c =
-    runs_on g.D.Disk c.facts_are_told_apart.ensures.among c.stores_go_on.ensures.gates_stay c.stores_go_on.ensures.rest_leaves c.stores_go_on.ensures.gates_rest c.args.graph.now c.args.self.now c.loop-alloc.self c.claim.new.self c.run_task.new.self c.in-Ok-Some.task c.loop-alloc.invariant c.is_kept-in-loop-alloc.ensures.kept (of_claim c.loop-alloc.self c.claim.new.self c.pick.result _ c.in-Ok-Some.task c.in-Ok-Some.field-0-is c.in-Ok-Some.ensures.claimed).2 c.in-Ok-true.ensures.runs
+    runs_on g.D.Disk c.facts_are_told_apart.ensures.among (λ on. (c.stores_go_on.ensures.gates on).stay) (λ on. (c.stores_go_on.ensures.rest on).commits) (λ on. (c.stores_go_on.ensures.gates on).rest) c.args.graph.now c.args.self.now c.loop-alloc.self c.claim.new.self c.run_task.new.self c.in-Ok-Some.task c.loop-alloc.invariant c.is_kept-in-loop-alloc.ensures.kept (of_claim c.loop-alloc.self c.claim.new.self c.pick.result _ c.in-Ok-Some.task c.in-Ok-Some.field-0-is c.in-Ok-Some.ensures.claimed).2 c.in-Ok-true.ensures.runs
 
 pub loop-alloc-preserved : goal.loop-alloc-preserved
 loop-alloc-preserved g c =
     let it = c.in-Ok-false.ensures in
-    driven_on g.D.Disk c.facts_are_told_apart.ensures.among c.stores_go_on.ensures.gates_stay c.stores_go_on.ensures.rest_leaves c.stores_go_on.ensures.gates_rest c.args.graph.now c.args.self.now c.run_task.new.self c.requires.graph
-    (runs_on g.D.Disk c.facts_are_told_apart.ensures.among c.stores_go_on.ensures.gates_stay c.stores_go_on.ensures.rest_leaves c.stores_go_on.ensures.gates_rest c.args.graph.now c.args.self.now c.loop-alloc.self c.claim.new.self c.run_task.new.self c.in-Ok-Some.task c.loop-alloc.invariant c.is_kept-in-loop-alloc.ensures.kept (of_claim c.loop-alloc.self c.claim.new.self c.pick.result _ c.in-Ok-Some.task c.in-Ok-Some.field-0-is c.in-Ok-Some.ensures.claimed).2 it.runs)
+    driven_on g.D.Disk c.facts_are_told_apart.ensures.among (λ on. (c.stores_go_on.ensures.gates on).stay) (λ on. (c.stores_go_on.ensures.rest on).commits) (λ on. (c.stores_go_on.ensures.gates on).rest) c.args.graph.now c.args.self.now c.run_task.new.self c.requires.graph
+    (runs_on g.D.Disk c.facts_are_told_apart.ensures.among (λ on. (c.stores_go_on.ensures.gates on).stay) (λ on. (c.stores_go_on.ensures.rest on).commits) (λ on. (c.stores_go_on.ensures.gates on).rest) c.args.graph.now c.args.self.now c.loop-alloc.self c.claim.new.self c.run_task.new.self c.in-Ok-Some.task c.loop-alloc.invariant c.is_kept-in-loop-alloc.ensures.kept (of_claim c.loop-alloc.self c.claim.new.self c.pick.result _ c.in-Ok-Some.task c.in-Ok-Some.field-0-is c.in-Ok-Some.ensures.claimed).2 it.runs)
     it.idle it.ok.0 it.ok.1
 
 pub returns-in-Err-run_task-clause-runs : goal.returns-in-Err-run_task-clause-runs
 returns-in-Err-run_task-clause-runs g c =
-    runs_on g.D.Disk c.facts_are_told_apart.ensures.among c.stores_go_on.ensures.gates_stay c.stores_go_on.ensures.rest_leaves c.stores_go_on.ensures.gates_rest c.args.graph.now c.args.self.now c.loop-alloc.self c.claim.new.self c.run_task.new.self c.in-Ok-Some.task c.loop-alloc.invariant c.is_kept-in-loop-alloc.ensures.kept (of_claim c.loop-alloc.self c.claim.new.self c.pick.result _ c.in-Ok-Some.task c.in-Ok-Some.field-0-is c.in-Ok-Some.ensures.claimed).2 c.in-Err-run_task.ensures.runs
+    runs_on g.D.Disk c.facts_are_told_apart.ensures.among (λ on. (c.stores_go_on.ensures.gates on).stay) (λ on. (c.stores_go_on.ensures.rest on).commits) (λ on. (c.stores_go_on.ensures.gates on).rest) c.args.graph.now c.args.self.now c.loop-alloc.self c.claim.new.self c.run_task.new.self c.in-Ok-Some.task c.loop-alloc.invariant c.is_kept-in-loop-alloc.ensures.kept (of_claim c.loop-alloc.self c.claim.new.self c.pick.result _ c.in-Ok-Some.task c.in-Ok-Some.field-0-is c.in-Ok-Some.ensures.claimed).2 c.in-Err-run_task.ensures.runs
 
 pub returns-in-Ok-None-clause-ok : goal.returns-in-Ok-None-clause-ok
 returns-in-Ok-None-clause-ok g c =

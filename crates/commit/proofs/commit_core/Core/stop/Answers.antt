@@ -20,6 +20,6 @@ returns-in-Err-clause-commits g c =
     let event : Event = Stopped c.args.task c.args.kind in
     let why = subst (λ (core : Core g.row.D.Denot). RefusesEnd (facts core) c.in-Err.refusal) c.self.view_is c.in-Err.ensures.refused in
     let illegal = subst (λ (core : Core g.row.D.Denot). IsLegal (graph core) (facts core) event → ⊥) c.self.view_is (c.in-Err.ensures.illegal event) in
-    refused_first g.D.Disk.files g.D.Disk.moment g.D.Disk.left_at (IsTrue g.D.Disk.is_honest) old new (RefusesEnd (facts old)) event (Refused c.in-Err.refusal)
+    refused_first g.D.Disk old new (RefusesEnd (facts old)) event (Refused c.in-Err.refusal)
     (c.requires.working, why) (λ legal. absurd (illegal legal)) (ap (λ (v : Vault g.row.D.Denot). v.halted) c.release.ensures.vault)
-    (λ honest working. rests g.D.Disk.files g.D.Disk.moment g.D.Disk.left_at old new (event ∷ []) (c.stores_go_on.ensures.held_leaves honest) (c.stores_go_on.ensures.gates_rest honest) (c.is_kept.ensures.kept honest) working c.release.ensures.vault)
+    (λ honest working. rests g.D.Disk old new (event ∷ []) ((c.stores_go_on.ensures.rest honest).held) ((c.stores_go_on.ensures.gates honest).rest) (c.is_kept.ensures.kept honest) working c.release.ensures.vault)

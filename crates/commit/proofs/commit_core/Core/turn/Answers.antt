@@ -19,8 +19,8 @@ returns-in_default g c =
     (λ honest.
     let holds = (c.self.invariant.1 honest).holds working in
     record {
-      facts = λ _. c.stores_go_on.ensures.held_leaves honest before.vault m.graph (environment_of m) (facts_of m) holds;
-      gates = c.stores_go_on.ensures.gates_rest honest before.vault m.graph (environment_of m) (facts_of m) holds;
+      facts = λ _. (c.stores_go_on.ensures.rest honest).held before.vault m.graph (environment_of m) (facts_of m) holds;
+      gates = (c.stores_go_on.ensures.gates honest).rest before.vault m.graph (environment_of m) (facts_of m) holds;
     })
 
 pub returns-in_default-vec : goal.returns-in_default-vec
@@ -32,14 +32,14 @@ returns-in_default-vec g c =
     (λ honest.
     let holds = (c.self.invariant.1 honest).holds working in
     record {
-      facts = λ _. c.stores_go_on.ensures.held_leaves honest before.vault m.graph (environment_of m) (facts_of m) holds;
-      gates = c.stores_go_on.ensures.gates_rest honest before.vault m.graph (environment_of m) (facts_of m) holds;
+      facts = λ _. (c.stores_go_on.ensures.rest honest).held before.vault m.graph (environment_of m) (facts_of m) holds;
+      gates = (c.stores_go_on.ensures.gates honest).rest before.vault m.graph (environment_of m) (facts_of m) holds;
     })
 
 pub turn_by-turned-requires-clause-store : goal.turn_by-turned-requires-clause-store
 turn_by-turned-requires-clause-store g c honest working =
     let m = c.self.inside.machine in
-    c.stores_go_on.ensures.ready c.self.inside.vault m.graph (environment_of m) (facts_of m) ((c.self.invariant.1 honest).holds working)
+    c.stores_go_on.ensures.calls.ready c.self.inside.vault m.graph (environment_of m) (facts_of m) ((c.self.invariant.1 honest).holds working)
 
 pub invariant_of-self : goal.invariant_of-self
 invariant_of-self g c =
@@ -52,7 +52,7 @@ invariant_of-self g c =
       λ _. c.self.invariant.0 working,
       λ honest.
           let holds = (c.self.invariant.1 honest).holds working in
-          kept_either g.D.Disk.files g.D.Disk.moment g.D.Disk.left_at (g.met.D.Disk.at_now honest) (c.stores_go_on.ensures.held_leaves honest) c.stores_go_on.ensures.refused
+          kept_either g.D.Disk (g.met.D.Disk.at_now honest) ((c.stores_go_on.ensures.rest honest).held) c.stores_go_on.ensures.calls.refused
           before.vault turned.new.self m before.in_doubt (events_in before.latest) before.allowance turned.result working (c.self.invariant.0 working) holds
           (turned.ensures.turned honest m.graph (environment_of m) (facts_of m) holds image) turned.ensures.halting.same,
       c.self.invariant.2,

@@ -9,7 +9,7 @@ invariant_of-self g c =
     let same : SameFacts c.self.inside.machine c.wake.new.self = of_wake _ _ _ c.wake.ensures in (
       c.self.invariant.0,
       λ honest.
-          kept_alike g.D.Disk.files g.D.Disk.moment g.D.Disk.left_at (g.met.D.Disk.at_now honest) c.self.inside.vault c.self.inside.machine c.wake.new.self (events_in c.self.inside.in_doubt) (events_in c.self.inside.latest) c.self.inside.allowance c.self.inside.allowance
+          kept_alike g.D.Disk (g.met.D.Disk.at_now honest) c.self.inside.vault c.self.inside.machine c.wake.new.self (events_in c.self.inside.in_doubt) (events_in c.self.inside.latest) c.self.inside.allowance c.self.inside.allowance
           same.graph same.environment same.facts (c.self.invariant.1 honest),
       omega (arith, c.wake.ensures.running, c.self.invariant.2),
     )

@@ -6,5 +6,5 @@ use Rattle.hub.proofs.close.NotClosed.again.Goals as goal
 
 pub returns-clause-whole : goal.returns-clause-whole
 returns-clause-whole g c =
-    subst (λ (at : List Known × List Known). IfOk c.close.result (λ core. (history : List Made) × IsWhole (HasRun g.D.Disk.moment g.D.Disk.left_at g.D.Disk.failures g.D.Disk.refusals (IsTrue g.D.Disk.is_honest) g.J.Naming.opening g.J.Naming.left g.J.Naming.envs) g.J.Naming.opening at.0 at.1 core history))
+    subst (λ (at : List Known × List Known). IfOk c.close.result (λ core. (history : List Made) × IsWhole (HasRun g.D.Disk g.J.Naming.opening g.J.Naming.left g.J.Naming.envs) g.J.Naming.opening at.0 at.1 core history))
     (λ i. (c.into_parts-hub.ensures.1 i, c.into_parts-hub.ensures.2 i)) c.close.ensures.whole

@@ -11,7 +11,7 @@ abbrev pub invariant-loop : goal.invariant-loop
 invariant-loop g l = record {
   next : (goal.iterator-loop g).can_next l.iterator';
   finished : (goal.iterator-loop g).is_finite l.iterator';
-  whole : IfOk l.closed (λ core. (history : List Made) × IsWhole (HasRun g.D.Disk.moment g.D.Disk.left_at g.D.Disk.failures g.D.Disk.refusals (IsTrue g.D.Disk.is_honest) g.J.Naming.opening g.J.Naming.left g.J.Naming.envs) g.J.Naming.opening l.fn.envs.items l.fn.workers.items core history);
+  whole : IfOk l.closed (λ core. (history : List Made) × IsWhole (HasRun g.D.Disk g.J.Naming.opening g.J.Naming.left g.J.Naming.envs) g.J.Naming.opening l.fn.envs.items l.fn.workers.items core history);
   all : OnOk l.closed ((number : ℕ) → number < g.J.Naming.passes → has_number number (l.fn.envs.items ++ l.fn.workers.items) ≡ true);
   idle : IfOk l.closed NoneRuns;
   back : IfErr l.closed (λ not_closed. (not_closed.envs.items ≡ l.fn.envs.items) × (not_closed.workers.items ≡ l.fn.workers.items));

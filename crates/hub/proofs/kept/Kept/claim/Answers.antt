@@ -9,7 +9,7 @@ use Rattle.hub.proofs.kept.Kept.claim.Goals as goal
 pub invariant_of-self : goal.invariant_of-self
 invariant_of-self g c =
     let e = c.claim-claimed.ensures in
-    subst (λ (d : Desk). IsKept (HasRun g.D.Disk.moment g.D.Disk.left_at g.D.Disk.failures g.D.Disk.refusals (IsTrue g.D.Disk.is_honest) g.J.Naming.opening g.J.Naming.left g.J.Naming.envs) g.J.Naming.opening g.J.Naming.passes d c.claim-claimed.new.self) (sym c.show.ensures.desk)
+    subst (λ (d : Desk). IsKept (HasRun g.D.Disk g.J.Naming.opening g.J.Naming.left g.J.Naming.envs) g.J.Naming.opening g.J.Naming.passes d c.claim-claimed.new.self) (sym c.show.ensures.desk)
     (kept_claimed _ (ran_stays g.D.Disk g.J.Naming.opening g.J.Naming.left g.J.Naming.envs) _ _ c.args.at _ _ _ c.claim-claimed.result c.self.invariant (record { some = e.some; claimed = e.claimed; none = e.none; err = e.err }))
 
 pub returns-clause-seen : goal.returns-clause-seen

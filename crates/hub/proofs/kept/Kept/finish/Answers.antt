@@ -25,9 +25,9 @@ finish-requires-clause-outcome g c =
 pub invariant_of-self-in-Err : goal.invariant_of-self-in-Err
 invariant_of-self-in-Err g c =
     let e = c.in-Err.ensures in
-    subst (λ (d : Desk). IsKept (HasRun g.D.Disk.moment g.D.Disk.left_at g.D.Disk.failures g.D.Disk.refusals (IsTrue g.D.Disk.is_honest) g.J.Naming.opening g.J.Naming.left g.J.Naming.envs) g.J.Naming.opening g.J.Naming.passes d c.finish.new.self) (sym c.show.ensures.desk)
-    (kept_refused g.D.Disk.failures g.D.Disk.refusals _ _ _ _ _ _ e.finishes.end c.in-Err.error c.self.invariant e.err.stays e.halts e.finishes.commits.doubt
-    (ran_refused g.D.Disk g.J.Naming.opening g.J.Naming.left g.J.Naming.envs c.facts_are_told_apart.ensures.among c.stores_go_on.ensures.gates_stay (commits c.self.inside.desk.book.history) c.self.inside.core c.finish.new.self c.in-Err.error c.is_kept.ensures.settled c.self.invariant.ran e.err.stays e.halts e.runs))
+    subst (λ (d : Desk). IsKept (HasRun g.D.Disk g.J.Naming.opening g.J.Naming.left g.J.Naming.envs) g.J.Naming.opening g.J.Naming.passes d c.finish.new.self) (sym c.show.ensures.desk)
+    (kept_refused g.D.Disk _ _ _ _ _ _ e.finishes.end c.in-Err.error c.self.invariant e.err.stays e.halts e.finishes.commits.doubt
+    (ran_refused g.D.Disk g.J.Naming.opening g.J.Naming.left g.J.Naming.envs c.facts_are_told_apart.ensures.among (λ on. (c.stores_go_on.ensures.gates on).stay) (commits c.self.inside.desk.book.history) c.self.inside.core c.finish.new.self c.in-Err.error c.is_kept.ensures.settled c.self.invariant.ran e.err.stays e.halts e.runs))
 
 pub returns-in-Err-clause-seen : goal.returns-in-Err-clause-seen
 returns-in-Err-clause-seen g c = sees_same _ c.self.inside.desk.book.history _ _ c.self.invariant.legal c.show.ensures.pass
@@ -49,7 +49,7 @@ invariant_of-self-2 g c =
     kept_ended c.facts_are_told_apart.ensures.among c.facts_go_on.ensures.all c.facts_go_on.ensures.environment _ g.J.Naming.opening g.J.Naming.passes c.show.new.pass.number c.self.inside.desk c.show.new.desk c.record_end.new.desk
     c.self.inside.core c.finish.new.self c.in-Ok.committed c.args.task c.inst-instance.result c.args.outcome c.of-said.result.value f.end c.self.invariant c.show.ensures.desk c.inst-instance.ensures c.of-said.ensures
     f.is_end f.told f.commits.takes
-    (ran_more g.D.Disk g.J.Naming.opening g.J.Naming.left g.J.Naming.envs c.facts_are_told_apart.ensures.among c.stores_go_on.ensures.gates_stay (commits c.self.inside.desk.book.history) old new (f.end ∷ []) goes (c.is_kept.ensures.settled goes) c.self.invariant.ran ends)
+    (ran_more g.D.Disk g.J.Naming.opening g.J.Naming.left g.J.Naming.envs c.facts_are_told_apart.ensures.among (λ on. (c.stores_go_on.ensures.gates on).stay) (commits c.self.inside.desk.book.history) old new (f.end ∷ []) goes (c.is_kept.ensures.settled goes) c.self.invariant.ran ends)
     c.record_end.ensures.desk
 
 pub returns-clause-seen : goal.returns-clause-seen

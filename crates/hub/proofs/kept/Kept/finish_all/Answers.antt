@@ -25,9 +25,9 @@ finish_all-requires g c = record {
 pub invariant_of-self-in-Err : goal.invariant_of-self-in-Err
 invariant_of-self-in-Err g c =
     let e = c.in-Err.ensures in
-    subst (λ (d : Desk). IsKept (HasRun g.D.Disk.moment g.D.Disk.left_at g.D.Disk.failures g.D.Disk.refusals (IsTrue g.D.Disk.is_honest) g.J.Naming.opening g.J.Naming.left g.J.Naming.envs) g.J.Naming.opening g.J.Naming.passes d c.finish_all.new.self) (sym c.show.ensures.desk)
-    (kept_same g.D.Disk.failures g.D.Disk.refusals _ _ _ _ _ _ e.finishes.commit c.in-Err.error e.finishes.doubt.1 c.self.invariant e.err.stays e.halts e.finishes.doubt.0
-    (ran_refused g.D.Disk g.J.Naming.opening g.J.Naming.left g.J.Naming.envs c.facts_are_told_apart.ensures.among c.stores_go_on.ensures.gates_stay (commits c.self.inside.desk.book.history) c.self.inside.core c.finish_all.new.self c.in-Err.error c.is_kept.ensures.settled c.self.invariant.ran e.err.stays e.halts e.runs))
+    subst (λ (d : Desk). IsKept (HasRun g.D.Disk g.J.Naming.opening g.J.Naming.left g.J.Naming.envs) g.J.Naming.opening g.J.Naming.passes d c.finish_all.new.self) (sym c.show.ensures.desk)
+    (kept_same g.D.Disk _ _ _ _ _ _ e.finishes.commit c.in-Err.error e.finishes.doubt.1 c.self.invariant e.err.stays e.halts e.finishes.doubt.0
+    (ran_refused g.D.Disk g.J.Naming.opening g.J.Naming.left g.J.Naming.envs c.facts_are_told_apart.ensures.among (λ on. (c.stores_go_on.ensures.gates on).stay) (commits c.self.inside.desk.book.history) c.self.inside.core c.finish_all.new.self c.in-Err.error c.is_kept.ensures.settled c.self.invariant.ran e.err.stays e.halts e.runs))
 
 pub returns-in-Err-clause-refused : goal.returns-in-Err-clause-refused
 returns-in-Err-clause-refused g c =
@@ -62,11 +62,11 @@ invariant_of-self-2 g c =
     let commit = cut c.in-Ok.ended (ends_said c.args.batch) in
     let goes : is_halted old ≡ false = answered.takes.working.0 in
     let run = c.in-Ok.ensures.runs goes in
-    subst (λ (at : Desk). IsKept (HasRun g.D.Disk.moment g.D.Disk.left_at g.D.Disk.failures g.D.Disk.refusals (IsTrue g.D.Disk.is_honest) g.J.Naming.opening g.J.Naming.left g.J.Naming.envs) g.J.Naming.opening g.J.Naming.passes at new)
+    subst (λ (at : Desk). IsKept (HasRun g.D.Disk g.J.Naming.opening g.J.Naming.left g.J.Naming.envs) g.J.Naming.opening g.J.Naming.passes at new)
     (sym (◌∙◌ {b = writing_by c.show.new.pass.number (cut c.in-Ok.ended (ends_said c.of-said.result.value)) c.show.new.desk} c.record_ends.ensures.desk (λ i. writing_by c.show.new.pass.number (cut c.in-Ok.ended (ends_said (c.of-said.ensures i))) (c.show.ensures.desk i))))
     (kept_more c.facts_are_told_apart.ensures.among c.facts_go_on.ensures.all c.facts_go_on.ensures.environment _ g.J.Naming.opening g.J.Naming.passes c.show.new.pass.number c.self.inside.desk old new commit c.self.invariant
     (comes_all g.D.Disk old new c.args.batch.tasks (ends_said c.args.batch) c.in-Ok.ensures.finishes.commit c.in-Ok.ended answered run)
-    (ran_more g.D.Disk g.J.Naming.opening g.J.Naming.left g.J.Naming.envs c.facts_are_told_apart.ensures.among c.stores_go_on.ensures.gates_stay (commits c.self.inside.desk.book.history) old new commit goes (c.is_kept.ensures.settled goes) c.self.invariant.ran run))
+    (ran_more g.D.Disk g.J.Naming.opening g.J.Naming.left g.J.Naming.envs c.facts_are_told_apart.ensures.among (λ on. (c.stores_go_on.ensures.gates on).stay) (commits c.self.inside.desk.book.history) old new commit goes (c.is_kept.ensures.settled goes) c.self.invariant.ran run))
 
 pub returns-clause-seen : goal.returns-clause-seen
 returns-clause-seen g c =

@@ -17,4 +17,4 @@ returns-clause-crash g c honest fresh =
 pub returns-clause-rests : goal.returns-clause-rests
 returns-clause-rests g c honest halted =
     subst (λ (kept : Kept g.row.D.Denot). (contents : Contents) → MayLeaveNow (g.D.Disk.files kept.core.vault.disk) contents → g.J.Naming.left g.J.Naming.opening.moment contents) c.self.view_is
-    (crash_rests g.D.Disk.files g.D.Disk.moment g.D.Disk.left_at g.J.Naming.opening g.J.Naming.left c.self.inside.core (λ contents may. (g.met.D.Disk.at_now honest c.self.inside.core.vault.disk contents).1 may) (c.self.invariant.ran.rests halted).1)
+    (crash_rests g.D.Disk g.J.Naming.opening g.J.Naming.left c.self.inside.core (λ contents may. (g.met.D.Disk.at_now honest c.self.inside.core.vault.disk contents).1 may) (c.self.invariant.ran.rests halted).1)

@@ -15,14 +15,14 @@ use Rattle.hub.proofs.kept.Kept.put_tag.Goals as goal
 
 pub invariant_of-self : goal.invariant_of-self
 invariant_of-self g c =
-    subst (λ (d : Desk). IsKept (HasRun g.D.Disk.moment g.D.Disk.left_at g.D.Disk.failures g.D.Disk.refusals (IsTrue g.D.Disk.is_honest) g.J.Naming.opening g.J.Naming.left g.J.Naming.envs) g.J.Naming.opening g.J.Naming.passes d c.put_tag.new.self) (sym c.record_tag.ensures.desk)
+    subst (λ (d : Desk). IsKept (HasRun g.D.Disk g.J.Naming.opening g.J.Naming.left g.J.Naming.envs) g.J.Naming.opening g.J.Naming.passes d c.put_tag.new.self) (sym c.record_tag.ensures.desk)
     (kept_more c.facts_are_told_apart.ensures.among c.facts_go_on.ensures.all c.facts_go_on.ensures.environment _ _ _ c.args.pass.now.number _ _ _ _ c.self.invariant (comes_one _ _ _ c.in-Ok.ensures.commits.takes)
     (ran_put g.D.Disk g.J.Naming.opening g.J.Naming.left g.J.Naming.envs c.args.pass.now.number (commits c.self.inside.desk.book.history) _ c.self.inside.core c.put_tag.new.self c.number.ensures.of_kind c.in-Ok.ensures.commits.takes.working.0 c.self.invariant.ran))
 
 pub invariant_of-self-in-Err : goal.invariant_of-self-in-Err
 invariant_of-self-in-Err g c =
-    subst (λ (d : Desk). IsKept (HasRun g.D.Disk.moment g.D.Disk.left_at g.D.Disk.failures g.D.Disk.refusals (IsTrue g.D.Disk.is_honest) g.J.Naming.opening g.J.Naming.left g.J.Naming.envs) g.J.Naming.opening g.J.Naming.passes d c.put_tag.new.self) (sym c.show.ensures.desk)
-    (kept_refused g.D.Disk.failures g.D.Disk.refusals _ _ _ _ _ _ _ c.in-Err.error c.self.invariant c.in-Err.ensures.unchanged.stays c.in-Err.ensures.halts c.in-Err.ensures.commits.doubt
+    subst (λ (d : Desk). IsKept (HasRun g.D.Disk g.J.Naming.opening g.J.Naming.left g.J.Naming.envs) g.J.Naming.opening g.J.Naming.passes d c.put_tag.new.self) (sym c.show.ensures.desk)
+    (kept_refused g.D.Disk _ _ _ _ _ _ _ c.in-Err.error c.self.invariant c.in-Err.ensures.unchanged.stays c.in-Err.ensures.halts c.in-Err.ensures.commits.doubt
     (ran_refused_put g.D.Disk g.J.Naming.opening g.J.Naming.left g.J.Naming.envs c.args.pass.now.number (commits c.self.inside.desk.book.history) c.self.inside.core c.put_tag.new.self c.in-Err.error c.number.ensures.of_kind c.in-Err.ensures.halts c.self.invariant.ran))
 
 pub returns-in-Ok-clause-core : goal.returns-in-Ok-clause-core

@@ -27,7 +27,7 @@ lines-preserved g c =
     let same = c.next.ensures.same in
     record {
       idle = c.answer.ensures.idle;
-      stands = keeps_on g.D.Disk g.O.Sink.target g.O.Sink.has_failed g.O.Sink.contents c.facts_are_told_apart.ensures.among c.stores_go_on.ensures.gates_stay
+      stands = keeps_on g.D.Disk g.O.Sink.target g.O.Sink.has_failed g.O.Sink.contents c.facts_are_told_apart.ensures.among (λ on. (c.stores_go_on.ensures.gates on).stay)
           c.args.self.now it.self c.next.new.self c.reply.new.self c.args.out.now it.out c.reply.new.out c.args.core.now it.core c.answer.new.core c.in-Some.command.now c.in-Some-answer.reply c.deref.result.now
           some.2 some.0 some.1 same.0 c.reply.ensures.left (c.deref.ensures ∙ c.graph.ensures) c.in-Some-answer.ensures.answers (c.reply.ensures.tells (same.1 ∙ some.0))
           (λ drive commands first old stands. c.put_row.ensures.keeps drive commands first old (c.lines.invariant.stands drive commands first old stands));
@@ -41,7 +41,7 @@ lines-preserved-in-Some-answer g c =
     let same = c.next.ensures.same in
     record {
       idle = c.answer.ensures.idle;
-      stands = keeps_on g.D.Disk g.O.Sink.target g.O.Sink.has_failed g.O.Sink.contents c.facts_are_told_apart.ensures.among c.stores_go_on.ensures.gates_stay
+      stands = keeps_on g.D.Disk g.O.Sink.target g.O.Sink.has_failed g.O.Sink.contents c.facts_are_told_apart.ensures.among (λ on. (c.stores_go_on.ensures.gates on).stay)
           c.args.self.now it.self c.next.new.self c.reply.new.self c.args.out.now it.out c.reply.new.out c.args.core.now it.core c.answer.new.core c.in-Some.command.now c.in-Some-answer.reply c.deref.result.now
           some.2 some.0 some.1 same.0 c.reply.ensures.left (c.deref.ensures ∙ c.graph.ensures) c.in-Some-answer.ensures.answers (c.reply.ensures.tells (same.1 ∙ some.0))
           (λ drive commands first old stands. c.put_row.ensures.keeps drive commands first old (c.lines.invariant.stands drive commands first old stands));
