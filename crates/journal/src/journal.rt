@@ -1,4 +1,4 @@
-ghost use Rattle.std.specs.Prelude.{◌≡◌, ◌≤◌, ◌<◌, ◌+◌, ◌↔◌, ◌++◌, [], ◌∷◌, ℕ, length, replicate, IsTrue, IfOk, OnOk, IsErrOf};
+ghost use Rattle.std.specs.Prelude.{◌≡◌, ◌≢◌, ◌≤◌, ◌<◌, ◌+◌, ◌↔◌, ◌++◌, [], ◌∷◌, ℕ, length, replicate, IsTrue, IfOk, OnOk, IsErrOf};
 ghost use Rattle.disk.specs.Storage.{ReportsAs, WritesSynced};
 ghost use Rattle.disk.specs.declared.error.DiskError.TheVariants as DiskError;
 ghost use Rattle.journal.specs.Records.{record_of};

@@ -40,10 +40,7 @@ impl Journal {
         if !begins_closed(&bytes[found.end..]) {
             return Err(JournalError::Damaged(end));
         }
-        Ok((
-            Journal { side, end },
-            Payloads::at(bytes, found.places),
-        ))
+        Ok((Journal { side, end }, Payloads::at(bytes, found.places)))
     }
 }
 

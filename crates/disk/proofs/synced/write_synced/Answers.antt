@@ -1,73 +1,66 @@
-use Rattle.std.proofs.Common.{length, ◌≤◌, refl, subst}
+use Rattle.std.proofs.Common.{length, ◌≤◌, refl, sym, subst, rules}
 use Rattle.std.proofs.lemmas.Result.{err_from_is_err_and}
 use Rattle.disk.specs.File.{File, written, write_touches}
-use Rattle.disk.specs.Time.{Contents, MayLeaveNow, KeepsAll}
+use Rattle.disk.specs.Time.{Contents, MayLeaveNow, LeavesOnly}
+use Rattle.disk.specs.Storage.{WritesSynced}
 use Rattle.disk.specs.Moments.{begun, goes_on, weakened}
 use Rattle.disk.specs.Settled.{now_after_sync}
 use Rattle.disk.proofs.Durability.{Touches, touches_before, touches_after, leaves_of}
 use Rattle.disk.proofs.AtOnce.{write_keeps, failed_sync_keeps, call_keeps_all, failed_sync_keeps_all, kept_at_once, call_at_once}
 use Rattle.disk.proofs.synced.write_synced.Goals as goal
 
-pub returns-in_err-write_at-clause-touches : goal.returns-in_err-write_at-clause-touches
-returns-in_err-write_at-clause-touches g c honest =
+pub returns-in_err-write_at-clause-written : goal.returns-in_err-write_at-clause-written
+returns-in_err-write_at-clause-written g c honest =
     let files = g.D.Disk.files in
+    let side = c.args.side in
+    let at = c.args.at in
     let n = length c.args.bytes.now in
-    let P : Contents → Type 0 = Touches c.args.side c.args.at n (files c.args.disk.now) in
-    let start = begun g.D.Disk.moment g.D.Disk.left_at c.args.disk.now P (λ contents left. touches_before c.args.side c.args.at n (files c.args.disk.now) contents ((g.met.D.Disk.at_now honest c.args.disk.now contents).0 left)) in
-    goes_on g.D.Disk.moment g.D.Disk.left_at c.args.disk.now c.args.disk.now c.write_at.new.self P start (c.write_at.ensures.time honest)
-    (λ contents left. touches_after c.args.side c.args.at n _ (written c.args.at c.args.bytes.now) c.write_at.result (files c.args.disk.now) (files c.write_at.new.self) refl (c.write_at.ensures.file honest) (c.write_at.ensures.other honest)
-    contents ((g.met.D.Disk.at_now honest c.write_at.new.self contents).0 left))
+    let old = c.args.disk.now in
+    let mid = c.write_at.new.self in
+    let now = g.met.D.Disk.at_now honest in
+    let P : Contents → Type 0 = Touches side at n (files old) in
+    let start = begun g.D.Disk.moment g.D.Disk.left_at old P (λ contents left. touches_before side at n (files old) contents ((now old contents).0 left)) in
+    let touched : LeavesOnly g.D.Disk.moment g.D.Disk.left_at old mid P = goes_on g.D.Disk.moment g.D.Disk.left_at old old mid P start (c.write_at.ensures.time honest)
+    (λ contents left. touches_after side at n _ (written at c.args.bytes.now) c.write_at.result (files old) (files mid) refl (c.write_at.ensures.file honest) (c.write_at.ensures.other honest) contents ((now mid contents).0 left)) in
+    let keeps : (contents : Contents) → MayLeaveNow (files old) contents → MayLeaveNow (files mid) contents =
+    write_keeps _ side (written at c.args.bytes.now) (write_touches (files old side).durable at n) c.write_at.result (files old) (files mid) refl (c.write_at.ensures.file honest) (c.write_at.ensures.other honest) in
+    let p = err_from_is_err_and c.from_residual.result c.from_residual.ensures.1 in
+    subst (λ r. WritesSynced g.D.Disk side at c.args.bytes.now old mid r) (sym p.1) (record {
+      ok = tt;
+      other = c.write_at.ensures.other honest;
+      touches = touched;
+      any_moment = λ synced is. weakened g.D.Disk.moment g.D.Disk.left_at old mid _ _ touched (leaves_of side at n (files old) synced is (subst (λ (f : File). at ≤ length f.content) is (c.requires honest)));
+      at_once = kept_at_once files g.D.Disk.moment g.D.Disk.left_at now old mid (c.write_at.ensures.time honest) keeps;
+      err = keeps;
+      err_moments = call_keeps_all files g.D.Disk.moment g.D.Disk.left_at now old mid (c.write_at.ensures.time honest) keeps;
+    })
 
-pub returns-in_err-write_at-clause-any_moment : goal.returns-in_err-write_at-clause-any_moment
-returns-in_err-write_at-clause-any_moment g c honest synced is =
-    weakened g.D.Disk.moment g.D.Disk.left_at c.args.disk.now c.write_at.new.self _ _ (returns-in_err-write_at-clause-touches g c honest)
-    (leaves_of c.args.side c.args.at (length c.args.bytes.now) (g.D.Disk.files c.args.disk.now) synced is (subst (λ (f : File). c.args.at ≤ length f.content) is (c.requires honest)))
-
-pub returns-clause-touches : goal.returns-clause-touches
-returns-clause-touches g c honest =
+pub returns-clause-written : goal.returns-clause-written
+returns-clause-written g c honest =
     let files = g.D.Disk.files in
+    let side = c.args.side in
+    let at = c.args.at in
     let n = length c.args.bytes.now in
-    let P : Contents → Type 0 = Touches c.args.side c.args.at n (files c.args.disk.now) in
-    let start = begun g.D.Disk.moment g.D.Disk.left_at c.args.disk.now P (λ contents left. touches_before c.args.side c.args.at n (files c.args.disk.now) contents ((g.met.D.Disk.at_now honest c.args.disk.now contents).0 left)) in
-    let after = touches_after c.args.side c.args.at n _ (written c.args.at c.args.bytes.now) c.write_at.result (files c.args.disk.now) (files c.write_at.new.self) refl (c.write_at.ensures.file honest) (c.write_at.ensures.other honest) in
-    let wrote = goes_on g.D.Disk.moment g.D.Disk.left_at c.args.disk.now c.args.disk.now c.write_at.new.self P start (c.write_at.ensures.time honest) (λ contents left. after contents ((g.met.D.Disk.at_now honest c.write_at.new.self contents).0 left)) in
-    goes_on g.D.Disk.moment g.D.Disk.left_at c.args.disk.now c.write_at.new.self c.sync.new.self P wrote (c.sync.ensures.time honest)
-    (λ contents left. after contents (now_after_sync _ c.args.side c.sync.result (files c.write_at.new.self) (files c.sync.new.self) (c.sync.ensures.file honest) (c.sync.ensures.other honest)
-    (g.met.D.Disk.reads_left honest c.write_at.new.self c.args.side) contents ((g.met.D.Disk.at_now honest c.sync.new.self contents).0 left)))
-
-pub returns-clause-any_moment : goal.returns-clause-any_moment
-returns-clause-any_moment g c honest synced is =
-    weakened g.D.Disk.moment g.D.Disk.left_at c.args.disk.now c.sync.new.self _ _ (returns-clause-touches g c honest)
-    (leaves_of c.args.side c.args.at (length c.args.bytes.now) (g.D.Disk.files c.args.disk.now) synced is (subst (λ (f : File). c.args.at ≤ length f.content) is (c.requires honest)))
-
-pub returns-in_err-write_at-clause-at_once : goal.returns-in_err-write_at-clause-at_once
-returns-in_err-write_at-clause-at_once g c honest = kept_at_once g.D.Disk.files g.D.Disk.moment g.D.Disk.left_at (g.met.D.Disk.at_now honest) c.args.disk.now c.write_at.new.self (c.write_at.ensures.time honest)
-    (write_keeps _ c.args.side (written c.args.at c.args.bytes.now) (write_touches (g.D.Disk.files c.args.disk.now c.args.side).durable c.args.at (length c.args.bytes.now)) c.write_at.result (g.D.Disk.files c.args.disk.now) (g.D.Disk.files c.write_at.new.self) refl (c.write_at.ensures.file honest) (c.write_at.ensures.other honest))
-
-pub returns-in_err-write_at-clause-err : goal.returns-in_err-write_at-clause-err
-returns-in_err-write_at-clause-err g c honest =
-    let p = err_from_is_err_and c.from_residual.result c.from_residual.ensures.1 in
-    let keeps : (contents : Contents) → MayLeaveNow (g.D.Disk.files c.args.disk.now) contents → MayLeaveNow (g.D.Disk.files c.write_at.new.self) contents = (write_keeps _ c.args.side (written c.args.at c.args.bytes.now) (write_touches (g.D.Disk.files c.args.disk.now c.args.side).durable c.args.at (length c.args.bytes.now)) c.write_at.result (g.D.Disk.files c.args.disk.now) (g.D.Disk.files c.write_at.new.self) refl (c.write_at.ensures.file honest) (c.write_at.ensures.other honest)) in
-    rw p.1 keeps
-
-pub returns-clause-at_once : goal.returns-clause-at_once
-returns-clause-at_once g c honest = call_at_once g.D.Disk.files g.D.Disk.moment g.D.Disk.left_at (g.met.D.Disk.at_now honest) c.args.disk.now c.write_at.new.self c.sync.new.self (c.write_at.ensures.time honest)
-    (write_keeps _ c.args.side (written c.args.at c.args.bytes.now) (write_touches (g.D.Disk.files c.args.disk.now c.args.side).durable c.args.at (length c.args.bytes.now)) c.write_at.result (g.D.Disk.files c.args.disk.now) (g.D.Disk.files c.write_at.new.self) refl (c.write_at.ensures.file honest) (c.write_at.ensures.other honest))
-    (c.sync.ensures.time honest)
-
-pub returns-clause-err : goal.returns-clause-err
-returns-clause-err g c honest = failed_sync_keeps _ c.args.side c.sync.result (g.D.Disk.files c.args.disk.now) (g.D.Disk.files c.write_at.new.self) (g.D.Disk.files c.sync.new.self) (c.sync.ensures.file honest) (c.sync.ensures.other honest)
-    (write_keeps _ c.args.side (written c.args.at c.args.bytes.now) (write_touches (g.D.Disk.files c.args.disk.now c.args.side).durable c.args.at (length c.args.bytes.now)) c.write_at.result (g.D.Disk.files c.args.disk.now) (g.D.Disk.files c.write_at.new.self) refl (c.write_at.ensures.file honest) (c.write_at.ensures.other honest))
-
-pub returns-in_err-write_at-clause-err_moments : goal.returns-in_err-write_at-clause-err_moments
-returns-in_err-write_at-clause-err_moments g c honest =
-    let p = err_from_is_err_and c.from_residual.result c.from_residual.ensures.1 in
-    let keeps : KeepsAll g.D.Disk.files g.D.Disk.moment g.D.Disk.left_at c.args.disk.now c.write_at.new.self =
-    call_keeps_all g.D.Disk.files g.D.Disk.moment g.D.Disk.left_at (g.met.D.Disk.at_now honest) c.args.disk.now c.write_at.new.self (c.write_at.ensures.time honest)
-    (write_keeps _ c.args.side (written c.args.at c.args.bytes.now) (write_touches (g.D.Disk.files c.args.disk.now c.args.side).durable c.args.at (length c.args.bytes.now)) c.write_at.result (g.D.Disk.files c.args.disk.now) (g.D.Disk.files c.write_at.new.self) refl (c.write_at.ensures.file honest) (c.write_at.ensures.other honest)) in
-    rw p.1 keeps
-
-pub returns-clause-err_moments : goal.returns-clause-err_moments
-returns-clause-err_moments g c honest = failed_sync_keeps_all g.D.Disk.files g.D.Disk.moment g.D.Disk.left_at (g.met.D.Disk.at_now honest) _ c.args.side c.sync.result c.args.disk.now c.write_at.new.self c.sync.new.self (c.write_at.ensures.time honest)
-    (write_keeps _ c.args.side (written c.args.at c.args.bytes.now) (write_touches (g.D.Disk.files c.args.disk.now c.args.side).durable c.args.at (length c.args.bytes.now)) c.write_at.result (g.D.Disk.files c.args.disk.now) (g.D.Disk.files c.write_at.new.self) refl (c.write_at.ensures.file honest) (c.write_at.ensures.other honest))
-    (c.sync.ensures.time honest) (c.sync.ensures.file honest) (c.sync.ensures.other honest)
+    let old = c.args.disk.now in
+    let mid = c.write_at.new.self in
+    let new = c.sync.new.self in
+    let now = g.met.D.Disk.at_now honest in
+    let P : Contents → Type 0 = Touches side at n (files old) in
+    let start = begun g.D.Disk.moment g.D.Disk.left_at old P (λ contents left. touches_before side at n (files old) contents ((now old contents).0 left)) in
+    let after : (contents : Contents) → MayLeaveNow (files mid) contents → P contents =
+    touches_after side at n _ (written at c.args.bytes.now) c.write_at.result (files old) (files mid) refl (c.write_at.ensures.file honest) (c.write_at.ensures.other honest) in
+    let wrote = goes_on g.D.Disk.moment g.D.Disk.left_at old old mid P start (c.write_at.ensures.time honest) (λ contents left. after contents ((now mid contents).0 left)) in
+    let touched : LeavesOnly g.D.Disk.moment g.D.Disk.left_at old new P = goes_on g.D.Disk.moment g.D.Disk.left_at old mid new P wrote (c.sync.ensures.time honest)
+    (λ contents left. after contents (now_after_sync _ side c.sync.result (files mid) (files new) (c.sync.ensures.file honest) (c.sync.ensures.other honest)
+    (g.met.D.Disk.reads_left honest mid side) contents ((now new contents).0 left))) in
+    let keeps : (contents : Contents) → MayLeaveNow (files old) contents → MayLeaveNow (files mid) contents =
+    write_keeps _ side (written at c.args.bytes.now) (write_touches (files old side).durable at n) c.write_at.result (files old) (files mid) refl (c.write_at.ensures.file honest) (c.write_at.ensures.other honest) in
+    record {
+      ok = search rules;
+      other = search rules;
+      touches = touched;
+      any_moment = λ synced is. weakened g.D.Disk.moment g.D.Disk.left_at old new _ _ touched (leaves_of side at n (files old) synced is (subst (λ (f : File). at ≤ length f.content) is (c.requires honest)));
+      at_once = call_at_once files g.D.Disk.moment g.D.Disk.left_at now old mid new (c.write_at.ensures.time honest) keeps (c.sync.ensures.time honest);
+      err = failed_sync_keeps _ side c.sync.result (files old) (files mid) (files new) (c.sync.ensures.file honest) (c.sync.ensures.other honest) keeps;
+      err_moments = failed_sync_keeps_all files g.D.Disk.moment g.D.Disk.left_at now _ side c.sync.result old mid new (c.write_at.ensures.time honest) keeps (c.sync.ensures.time honest) (c.sync.ensures.file honest) (c.sync.ensures.other honest);
+    }

@@ -16,15 +16,12 @@ returns-then-not-begins_closed-clause-damaged g c honest place is =
     let not_closed = λ (stands : StandsFor (drop end c.deref.result.now) []).
     let closed : ◌≡◌ {A = Bool} false true = c.if-not-begins_closed.ensures.1 (subst (λ (bytes : List ℕ). StandsFor bytes []) (ap (drop end) (c.deref.ensures.value ∙ sym c.deref-2.ensures.value) ∙ sym (take_rest c.deref-2.result.now end)) stands) in
     let never : ⊥ = cc in never in
-    subst (λ (place : ℕ). BreaksAt c.args.at content place) there
-    (breaks_at content c.deref.result.now c.args.at end _ (c.deref.ensures.value ∙ c.in_ok-bytes.ensures.value honest) c.in_ok-found.ensures.leads c.in_ok-found.ensures.last not_closed)
+    let breaks : BreaksAt c.args.at content place = subst (λ (place : ℕ). BreaksAt c.args.at content place) there
+    (breaks_at content c.deref.result.now c.args.at end _ (c.deref.ensures.value ∙ c.in_ok-bytes.ensures.value honest) c.in_ok-found.ensures.leads c.in_ok-found.ensures.last not_closed) in
+    (breaks, nothing_stands c.args.at content place breaks)
 
 pub returns-clause-only : goal.returns-clause-only
 returns-clause-only g c honest payloads stands =
     let content = (g.D.Disk.files c.args.disk.now c.args.side).content in
     let found : StandsFor (drop c.args.at content) c.at.result = grind (arith, common_steps) in
     one_meaning c.at.result payloads (drop c.args.at content) found stands
-
-pub returns-then-not-begins_closed-clause-nothing : goal.returns-then-not-begins_closed-clause-nothing
-returns-then-not-begins_closed-clause-nothing g c honest place is =
-    nothing_stands c.args.at (g.D.Disk.files c.args.disk.now c.args.side).content place (returns-then-not-begins_closed-clause-damaged g c honest place is)
