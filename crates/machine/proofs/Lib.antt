@@ -39,6 +39,7 @@ pub mod Putting
 pub mod Quiet
 pub mod Reached
 pub mod Restored
+pub mod Rising
 pub mod Roomier
 pub mod Rows
 pub mod Sets

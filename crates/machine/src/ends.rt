@@ -3,6 +3,7 @@ use crate::distinct::are_distinct;
 use crate::keeping::given_are_of_graph;
 use crate::{End, Machine, Refusal};
 use instances::{State, Task};
+use maps::Hint;
 use terms::{FaultKind, Inst, Put, facts_are_told_apart};
 
 impl Machine {
@@ -28,6 +29,13 @@ impl Machine {
         ensures { IsTrue result ↔ (state_of self.now inst ≡ Some Running) }
     {
         self.memory.instances.state(inst) == Some(State::Running)
+    }
+
+    // The same. It looks first where the hint says, and sets the hint to where the instance is or would be.
+    pub(crate) fn runs_near(&self, inst: Inst, hint: &mut Hint) -> bool
+        ensures { IsTrue result ↔ (state_of self.now inst ≡ Some Running) }
+    {
+        self.memory.instances.state_near(inst, hint) == Some(State::Running)
     }
 
     /// How an instance ends after its body gave these puts, reading the items that are here: it is done, or at fault because

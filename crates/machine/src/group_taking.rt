@@ -2,6 +2,7 @@ use crate::Machine;
 use crate::tasks::are_once;
 use crate::turns::{room_in_turn, run_in_turn};
 use instances::{Tasks, runs_are_counted};
+use maps::Hint;
 use terms::{Event, orders_are_total};
 
 impl Machine {
@@ -25,9 +26,10 @@ impl Machine {
     fn all_run(&self, tasks: &Tasks) -> bool
         ensures { MatchBool result (AllByRecursion (λ instance. state_of self.now instance ≡ Some Running) tasks.now) (AllByRecursion (λ instance. state_of self.now instance ≡ Some Running) tasks.now → ⊥) }
     {
+        let mut hint = Hint::new();
         for number in 0..tasks.len() {
             let inst = tasks.get(number).unwrap();
-            if !self.runs_here(inst) {
+            if !self.runs_near(inst, &mut hint) {
                 return false;
             }
         }
