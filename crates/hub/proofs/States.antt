@@ -1,5 +1,5 @@
 -- The state after one commit more.
-use Rattle.std.proofs.Common.{◌≡◌, ◌∙◌, ◌||◌, ◌≤◌, ◌+◌, Bool, true, false, true≢false, List, [], ◌∷◌, ◌++◌, length, refl, sym, ap, subst, arith, length-append}
+use Rattle.std.proofs.Common.{◌≡◌, ◌∙◌, ◌||◌, ◌≤◌, ◌+◌, Bool, true, false, true≢false, List, [], ◌∷◌, ◌++◌, ℕ, length, map, cond, nat_lt, refl, sym, ap, subst, arith, length-append}
 use mathlib.Core.List.{IsPrefix}
 use Rattle.std.proofs.Math.Bool.{or-false, or_assoc}
 use Rattle.std.proofs.lemmas.List.{append-nil}
@@ -10,9 +10,13 @@ use Rattle.terms.specs.Commits.{Commit, events_of}
 use Rattle.terms.specs.Facts.{Fact, FactsGoOn, EnvironmentGoesOn, event_facts, environment_facts}
 use Rattle.terms.specs.Facts as stated
 use Rattle.terms.specs.Sets.{Facts, AmongBoth, among, with_facts}
+use Rattle.codec.specs.Commits.{commit_bytes}
 use Rattle.codec.specs.Spelling.{event_bytes}
+use Rattle.codec.specs.declared.payload.TheConstants.{MOST_EVENTS}
+use Rattle.journal.specs.Records.{record_of, records}
 use Rattle.graph.specs.Graph.{Graph}
 use Rattle.machine.specs.State.{AreLegalFrom}
+use Rattle.vault.specs.Groups.{groups_of, in_front}
 use Rattle.commit.specs.Core.{Core}
 use Rattle.commit.specs.Core as core
 use Rattle.commit.specs.Calls.{Takes, Stays, commit_length}
@@ -44,7 +48,7 @@ comes_one old new event takes = record {
   allowance = omega (arith, takes.allowance);
 }
 
--- ---- its record
+-- ---- its records
 
 has_byte : (one : Event) → 1 ≤ length (event_bytes one)
 has_byte (event.EnvItem address value) = omega arith
@@ -56,11 +60,37 @@ have_bytes : (events : List Event) → length events ≤ length (flat_map event_
 have_bytes [] = omega arith
 have_bytes (first ∷ events) = omega (arith, has_byte first, have_bytes events, length-append (event_bytes first) (flat_map event_bytes events))
 
--- a record has at least as many bytes as its commit has events
+-- a record has at least as many bytes as there are events in it
+group_has_bytes : (group : Commit) → length group ≤ length (record_of (commit_bytes group))
+group_has_bytes [] = omega arith
+group_has_bytes (one ∷ []) = omega arith
+group_has_bytes (first ∷ second ∷ more) = omega (arith, have_bytes (first ∷ second ∷ more))
+
+-- how many events some groups have
+abbrev count_in : List Commit → ℕ
+count_in [] = 0
+count_in (group ∷ groups) = length group + count_in groups
+
+one_in_front : (event : Event) (groups : List Commit) → count_in (in_front event groups) ≡ 1 + count_in groups
+one_in_front event [] = refl
+one_in_front event (group ∷ groups) = at (nat_lt (length group) MOST_EVENTS)
+  where
+    at : (small : Bool) → count_in (cond small ((event ∷ group) ∷ groups) ((event ∷ []) ∷ group ∷ groups)) ≡ 1 + (length group + count_in groups)
+    at true = refl
+    at false = refl
+
+all_counted : (commit : Commit) → length commit ≡ count_in (groups_of commit)
+all_counted [] = refl
+all_counted (event ∷ events) = omega (arith, all_counted events, one_in_front event (groups_of events))
+
+groups_have_bytes : (groups : List Commit) → count_in groups ≤ length (records (map commit_bytes groups))
+groups_have_bytes [] = omega arith
+groups_have_bytes (group ∷ groups) =
+    omega (arith, group_has_bytes group, groups_have_bytes groups, length-append (record_of (commit_bytes group)) (records (map commit_bytes groups)))
+
+-- the records of a commit have at least as many bytes as it has events
 pub record_has_bytes : (commit : Commit) → length commit ≤ commit_length commit
-record_has_bytes [] = omega arith
-record_has_bytes (one ∷ []) = omega arith
-record_has_bytes (first ∷ second ∷ more) = omega (arith, have_bytes (first ∷ second ∷ more))
+record_has_bytes commit = omega (arith, all_counted commit, groups_have_bytes (groups_of commit))
 
 -- ---- the state
 

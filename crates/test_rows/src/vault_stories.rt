@@ -4,7 +4,7 @@
 //! `length SIDE`, `read SIDE PLACE LENGTH`, `has SIDE BYTES`, `crash BYTES | BYTES`, `leave CHOICE`, a crash that leaves
 //! each touched byte as it was `synced`, as it was `written`, or as this number, `calls`, and those of `journals`.
 //! `fail NUMBER`: the call of the disk with this number, counted from now, fails. Calls of a store: `create NAME`,
-//! `open`, `facts`, `append BYTES` of a payload, `append BYTES | BYTES`, which lays the latter ahead, and `turn LENGTH`, which writes the image that
+//! `open`, `facts`, `append BYTES` of a payload, `append BYTES | BYTES` of the events of both, and `turn LENGTH`, which writes the image that
 //! the last `open` gave through a buffer of this length, or of 4,096 bytes.
 use crate::stories::World;
 use crate::vaults;

@@ -1,7 +1,6 @@
 //! The calls of a store.
 ghost use Rattle.std.specs.Prelude.{◌≡◌, ◌<◌, ◌≤◌, true, false, length, IfOk};
 ghost use Rattle.std.specs.List.{AllByRecursion};
-ghost use Rattle.codec.specs.declared.payload.TheConstants.{MOST_EVENTS};
 ghost use Rattle.std.proofs.Props.{props};
 ghost use Rattle.codec.specs.Spelling.{HasFewPuts, HasPutNumber};
 ghost use Rattle.holdings.specs.Holdings.{image_of};
@@ -83,17 +82,16 @@ impl Live {
         vault.into_disk()
     }
 
-    // Appends a commit of one event, or of several, and lays these bytes ahead.
-    fn appended(self, commit: &[Event], ahead: &[u8]) -> (Live, Option<VaultError>)
+    // Appends a commit of one event, or of several.
+    fn appended(self, commit: &[Event]) -> (Live, Option<VaultError>)
         requires some { 1 ≤ length commit.now }
-        requires few { length commit.now ≤ MOST_EVENTS }
         requires puts { AllByRecursion HasFewPuts commit.now }
     {
         let Live { mut vault, image } = self;
-        let result = if commit.len() == 1 && ahead.is_empty() {
+        let result = if commit.len() == 1 {
             vault.append(&commit[0])
         } else {
-            vault.append_all(commit, ahead)
+            vault.append_all(commit)
         };
         match result {
             Ok(()) => (Live { vault, image }, None),
@@ -275,7 +273,7 @@ pub(crate) fn tell_facts(
     }
 }
 
-/// Appends the commit that these bytes of a payload spell: one event, or several. What stands behind `|` is laid ahead.
+/// Appends the commit that these bytes spell: those of a payload, or those of several with `|` between them, whose events it has one after another.
 pub(crate) fn append_commit(
     alloc: Global,
     names: &Names,
@@ -283,33 +281,44 @@ pub(crate) fn append_commit(
     text: &str,
     told: &mut String,
 ) -> Result<(), AllocError> {
-    let (payload, ahead) = text.split_once('|').unwrap_or((text, ""));
-    let payload = bytes_of(alloc, names, payload)?.unwrap_or(Vec::new(alloc));
-    let ahead = bytes_of(alloc, names, ahead)?.unwrap_or(Vec::new(alloc));
-    match append_payload(alloc, world, &payload, &ahead) {
+    let mut commit = Vec::new(alloc);
+    let mut sound = true;
+    for part in text.split('|') {
+        let payload = bytes_of(alloc, names, part)?.unwrap_or(Vec::new(alloc));
+        sound = add_payload(alloc, &payload, &mut commit)? && sound;
+    }
+    if !sound || commit.is_empty() {
+        return told.push_str("no commit");
+    }
+    match append(alloc, world, &commit) {
         Some(answer) => tell_answer(answer, "appended", told),
-        None => told.push_str("not open, or no commit"),
+        None => told.push_str("not open"),
     }
 }
 
-// The result of the append of a payload, if it is one and a store is open.
-fn append_payload(alloc: Global, world: &mut World, bytes: &[u8], ahead: &[u8]) -> Option<Answer> {
-    let mut commit = Vec::new(alloc);
-    match decode_payload(alloc, bytes, MAX_COMPONENTS, &mut commit) {
-        Ok(()) => append(alloc, world, &commit, ahead),
-        Err(_) => None,
+// Adds the events that the bytes of a payload spell; says whether they spell some.
+fn add_payload(alloc: Global, bytes: &[u8], commit: &mut Vec<Event>) -> Result<bool, AllocError>
+    requires { AllByRecursion HasFewPuts commit.old.items }
+    ensures { AllByRecursion HasFewPuts commit.new.items }
+{
+    let mut events = Vec::new(alloc);
+    match decode_payload(alloc, bytes, MAX_COMPONENTS, &mut events) {
+        Ok(()) => {
+            commit.append(&mut events)?;
+            Ok(true)
+        }
+        Err(_) => Ok(false),
     }
 }
 
 // The result of an append, if a store is open.
-fn append(alloc: Global, world: &mut World, commit: &[Event], ahead: &[u8]) -> Option<Answer>
+fn append(alloc: Global, world: &mut World, commit: &[Event]) -> Option<Answer>
     requires some { 1 ≤ length commit.now }
-    requires few { length commit.now ≤ MOST_EVENTS }
     requires puts { AllByRecursion HasFewPuts commit.now }
 {
     match world.taken(alloc).into_store() {
         Ok(live) => {
-            let (live, error) = live.appended(commit, ahead);
+            let (live, error) = live.appended(commit);
             let answer = live.answer(error);
             *world = World::Open(live);
             Some(answer)
