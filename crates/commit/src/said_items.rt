@@ -11,13 +11,15 @@ impl<'a> Batch<'a> {
     ghost use Rattle.machine.specs.Machine.{IsValueAt};
     ghost use Rattle.commit.specs.Batch.{ends_said};
 
-    /// The value of the item that its outcomes put at an address, if they put one. It goes through all of their puts.
+    /// The value of the item that its outcomes put at an address, if they put one. It goes through their puts, from the last outcome to the first.
     pub fn item(&self, address: Addr) -> Option<i64>
         ensures { IsValueAt (stated (ends_said self.now)) address result }
     {
         facts_are_told_apart();
-        for number in 0..self.outcomes.len() {
-            match put_by(&self.outcomes[number], &address) {
+        let mut left = self.outcomes.len();
+        while left > 0 {
+            left -= 1;
+            match put_by(&self.outcomes[left], &address) {
                 Some(value) => return Some(value),
                 None => {}
             }
