@@ -1,5 +1,5 @@
 -- What an opening finds, and why it is refused.
-use Rattle.std.proofs.Common.{◌≡◌, ◌∙◌, ap, sym, refl, subst, inl, inr, ℕ, Result, Ok, Err, IfOk, IfErr, IsErrOf}
+use Rattle.std.proofs.Common.{◌≡◌, ◌∙◌, ap, sym, refl, subst, inl, inr, Result, Ok, Err, IfOk, IfErr, IsErrOf}
 use Rattle.disk.specs.Storage.{Errs, ReportsAs}
 use Rattle.disk.specs.declared.storage.Disk.{Ghosts}
 use Rattle.disk.specs.declared.side.Side.{Side}

@@ -1,7 +1,7 @@
 -- How a core goes on: by nothing, or by several puts that are tried as one commit.
 use Rattle.disk.specs.Storage.{Errs, Leaves}
 use Rattle.disk.specs.declared.storage.Disk.{Ghosts}
-use Rattle.std.proofs.Common.{◌≡◌, ◌∙◌, ◌≤◌, ◌++◌, ap, refl, sym, subst, inl, inr, ℕ, Bool, true, false, List, [], ◌∷◌, length, Result, Err, arith, IsTrue}
+use Rattle.std.proofs.Common.{◌≡◌, ◌∙◌, ◌≤◌, ◌++◌, ap, refl, sym, subst, inl, inr, Bool, true, false, List, [], ◌∷◌, length, Result, Err, arith, IsTrue}
 use Rattle.std.proofs.lemmas.Bool.{false≢true}
 use Rattle.std.proofs.lemmas.List.{append-nil}
 use Rattle.terms.specs.declared.event.Event.{Event}

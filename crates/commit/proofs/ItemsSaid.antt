@@ -119,3 +119,11 @@ end_at (suc n) (task ∷ tasks) (outcome ∷ outcomes) one even within is = end_
 pub no_ends : (tasks : List Inst) → ends_by tasks [] ≡ []
 no_ends [] = refl
 no_ends (task ∷ tasks) = refl
+
+-- what the ends from a place on state, all state
+pub in_all : AmongBoth → (n : ℕ) (tasks : List Inst) (outcomes : List Outcome) (address : Addr) (value : ℤ) → items (stated (ends_by (drop n tasks) (drop n outcomes))) address value → items (stated (ends_by tasks outcomes)) address value
+in_all both zero tasks outcomes address value it = it
+in_all both (suc n) [] outcomes address value it = it
+in_all both (suc n) (task ∷ tasks) [] address value it = subst (λ (list : List Event). items (stated list) address value) (no_ends (drop n tasks)) it
+in_all both (suc n) (task ∷ tasks) (outcome ∷ outcomes) address value it =
+    others_state both (end_said task outcome) (ends_by tasks outcomes) address value (in_all both n tasks outcomes address value it)

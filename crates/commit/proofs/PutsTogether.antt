@@ -67,9 +67,9 @@ taken_some old new [] some it = absurd (omega (arith, some))
 taken_some old new (first ∷ commit) some it = it
 
 -- what is said of an answer, without the answer
-taken_of : {P : Type 0} (result : Result ℕ CoreError) (count : ℕ) → IfOk result (λ answer. (answer ≡ count) × P) → OnOk result P
-taken_of (Ok answer) count it = it.1
-taken_of (Err error) count it = tt
+taken_of : (P : Type 0) (result : Result ℕ CoreError) (count : ℕ) → IfOk result (λ answer. (answer ≡ count) × P) → OnOk result P
+taken_of P (Ok answer) count it = it.1
+taken_of P (Err error) count it = tt
 
 module _ {D : Type 0} (storage : Ghosts D) (old mid : Core D) (room : GivesRoom old mid) where
   taken_before : (new : Core D) (commit : Commit) → 1 ≤ length commit → TakesPuts mid new commit → TakesPuts old new commit
@@ -95,7 +95,7 @@ module _ {D : Type 0} (storage : Ghosts D) (old mid : Core D) (room : GivesRoom 
   pub tries : (new : Core D) (commit : Commit) (result : Result ℕ CoreError) → 1 ≤ length commit → IfOk result (λ answer. (answer ≡ length commit) × TakesPuts mid new commit) → OnErr result (IsUnchanged mid new) → IfErr result (RefusesPuts mid commit) → TellsFullAll mid commit result
       → Halts storage mid new result → AreInDoubt mid new commit result → (IsTrue storage.is_honest → CrashLeaves storage mid new commit) → TriesPuts storage old new commit result
   tries new commit result some ok err refused full halting doubt moments = record {
-    takes = on_ok result (TakesPuts mid new commit) (TakesAny old new commit) (λ it. taken_any old new commit some (taken_before new commit some it)) (taken_of result (length commit) ok);
+    takes = on_ok result (TakesPuts mid new commit) (TakesAny old new commit) (λ it. taken_any old new commit some (taken_before new commit some it)) (taken_of _ result (length commit) ok);
     unchanged = on_err result (IsUnchanged mid new) (IsUnchanged old new) (unchanged storage old mid room new) err;
     refused = if_err result (RefusesPuts mid commit) (RefusesPuts old commit) (refused_before commit) refused;
     full = λ working more long. full more (too_long_then old mid room commit long);

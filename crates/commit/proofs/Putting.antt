@@ -1,7 +1,7 @@
 -- The whole of what a put and a finish promise, from the parts that the calls within them promise.
 use Rattle.disk.specs.Storage.{ReportsAs}
 use Rattle.disk.specs.declared.storage.Disk.{Ghosts}
-use Rattle.std.proofs.Common.{◌≡◌, ◌∙◌, ap, sym, refl, subst, inl, inr, ◌⊎◌, ℕ, true, Some, [], ◌∷◌, Result, Err, OnOk, OnErr, IfErr, arith}
+use Rattle.std.proofs.Common.{◌≡◌, ◌∙◌, ap, sym, refl, subst, inl, inr, ◌⊎◌, true, Some, [], ◌∷◌, Result, Err, OnOk, OnErr, IfErr, arith}
 use Rattle.std.proofs.lemmas.Bool.{false≢true}
 use Rattle.std.specs.Prelude.{is_some, IsTrue}
 use Rattle.terms.specs.declared.name.Inst.{Inst}

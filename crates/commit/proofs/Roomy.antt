@@ -1,9 +1,8 @@
 -- What is committed after room was made is committed from the state before that.
-use Rattle.std.proofs.Common.{◌≡◌, ◌∙◌, ◌↔◌, ◌⊎◌, ◌≤◌, ◌+◌, ◌||◌, ap, sym, refl, subst, inl, inr, ℕ, ℤ, true, false, List, [], ◌∷◌, Result, Ok, Err, IsErrOf, arith}
+use Rattle.std.proofs.Common.{◌≡◌, ◌∙◌, ◌↔◌, ◌⊎◌, ◌≤◌, ◌+◌, ◌||◌, ap, sym, refl, subst, inl, inr, ℤ, true, false, List, [], ◌∷◌, Result, Ok, Err, IsErrOf, arith, IsTrue}
 use Rattle.std.proofs.lemmas.Bool.{false≢true}
 use Rattle.disk.specs.Storage.{Errs, Leaves, ReportsAs}
 use Rattle.disk.specs.declared.storage.Disk.{Ghosts}
-use Rattle.disk.specs.Time.{HasErred}
 use Rattle.disk.specs.Moments.{weakened}
 use Rattle.terms.specs.declared.name.Addr.{Addr}
 use Rattle.terms.specs.declared.name.Inst.{Inst}
@@ -214,8 +213,8 @@ unhalted {T = T} storage old new error working vault doubt not_halted not_device
     inside : {cause : CoreError} → ◌≡◌ {A = Result T CoreError} (Err error) (Err cause) → error ≡ cause
     inside is = cc
 
-    never : HasErred failures refusals old.vault.disk new.vault.disk → ⊥
-    never erred = elim (subst (λ v. HasErred failures refusals old.vault.disk v.disk) vault erred) [ inl grew ↦ absurd (omega (arith, grew)) | inr changed ↦ changed refl ]
+    never : Errs storage old.vault.disk new.vault.disk → ⊥
+    never erred = elim (subst (λ v. Errs storage old.vault.disk v.disk) vault erred) [ inl grew ↦ absurd (omega (arith, grew)) | inr changed ↦ changed refl ]
 
 -- the same, returned with another value
 module _ {D T U : Type 0} (storage : Ghosts D) (old new : Core D) (event : Event) where

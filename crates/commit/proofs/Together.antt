@@ -1,7 +1,8 @@
 -- Several ends that are committed as one: after room was made, and as a run by itself.
 use Rattle.disk.specs.Storage.{Leaves}
 use Rattle.disk.specs.declared.storage.Disk.{Ghosts}
-use Rattle.std.proofs.Common.{◌≡◌, ◌∙◌, ◌<◌, ◌≤◌, ◌+◌, ◌++◌, ◌||◌, ap, sym, refl, subst, inl, inr, ℕ, Bool, true, false, List, [], ◌∷◌, length, Result, Ok, Err, IfOk, IfErr, OnOk, OnErr, Some, arith, IsTrue}
+use Rattle.disk.specs.declared.side.Side.{Side}
+use Rattle.std.proofs.Common.{◌≡◌, ◌∙◌, ◌<◌, ◌≤◌, ◌+◌, ◌++◌, ◌||◌, ap, sym, refl, subst, inl, inr, ℕ, Bool, true, false, List, [], ◌∷◌, length, Result, Ok, Err, IfOk, IfErr, OnErr, Some, arith, IsTrue}
 use Rattle.std.proofs.lemmas.Bool.{false≢true}
 use Rattle.std.proofs.lemmas.List.{append-nil}
 use Rattle.std.specs.List.{AllByRecursion}
@@ -26,6 +27,7 @@ use Rattle.machine.specs.State.{AreLegalFrom}
 use Rattle.vault.specs.declared.vault.Vault.{Vault}
 use Rattle.vault.specs.declared.error.VaultError.{VaultError}
 use Rattle.vault.specs.declared.error.VaultError.TheVariants.{Device, NoMemory, Damaged, Full, NotAStore, Halted, Exists}
+use Rattle.vault.specs.Calls.{IsOfCall}
 use Rattle.vault.specs.Commits.{AppendLeaves, GatesRest, HeldLeaves, RestLeaves, StandsForBeginning}
 use Rattle.vault.specs.Stands.{Stands}
 use Rattle.vault.specs.Store.{StandsBeforeOrAfter}
@@ -234,6 +236,37 @@ halts_first storage old new (Store Device) it vault doubt = absurd it
 halts_first storage old new (Store (Damaged side place)) it vault doubt = absurd it
 halts_first storage old new (Store NotAStore) it vault doubt = absurd it
 halts_first storage old new (Store Exists) it vault doubt = absurd it
+
+-- ---- an append that was refused
+
+not_damaged : (side : Side) (place : ℕ) → IsOfCall (Damaged side place) → ⊥
+not_damaged side place (inl is) = cc
+not_damaged side place (inr (inl is)) = cc
+not_damaged side place (inr (inr (inl is))) = cc
+not_damaged side place (inr (inr (inr is))) = cc
+
+there_is_one : IsOfCall NotAStore → ⊥
+there_is_one (inl is) = cc
+there_is_one (inr (inl is)) = cc
+there_is_one (inr (inr (inl is))) = cc
+there_is_one (inr (inr (inr is))) = cc
+
+not_there_yet : IsOfCall Exists → ⊥
+not_there_yet (inl is) = cc
+not_there_yet (inr (inl is)) = cc
+not_there_yet (inr (inr (inl is))) = cc
+not_there_yet (inr (inr (inr is))) = cc
+
+-- why ends that are due were refused
+pub refused_due : {D : Type 0} (c : Core D) (ends : List Event) (error : VaultError) → is_halted c ≡ false → AreLegalFrom (graph c) (facts c) ends → 1 ≤ length ends → IsOfCall error
+    → (error ≡ Halted → is_halted c ≡ true) → (error ≡ Full → AreTooLong c ends) → RefusesAll c ends (Store error)
+refused_due c ends Device working legal some of_call halts long = (working, some)
+refused_due c ends NoMemory working legal some of_call halts long = (working, no_fault (graph c) (facts c) ends some legal)
+refused_due c ends Full working legal some of_call halts long = (working, some, long refl)
+refused_due c ends Halted working legal some of_call halts long = halts refl
+refused_due c ends (Damaged side place) working legal some of_call halts long = absurd (not_damaged side place of_call)
+refused_due c ends NotAStore working legal some of_call halts long = absurd (there_is_one of_call)
+refused_due c ends Exists working legal some of_call halts long = absurd (not_there_yet of_call)
 
 -- ---- a run by itself
 

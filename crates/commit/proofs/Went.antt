@@ -1,9 +1,6 @@
 -- A run as commits by which a core goes on.
 use Rattle.disk.specs.declared.storage.Disk.{Ghosts}
 use Rattle.std.proofs.Common.{◌∙◌, ap, sym, ℕ, List}
-use Rattle.disk.specs.declared.side.Side.{Side}
-use Rattle.disk.specs.File.{File}
-use Rattle.disk.specs.Time.{Contents}
 use Rattle.terms.specs.Commits.{Commit, events_of}
 use Rattle.terms.specs.Sets.{Facts}
 use Rattle.commit.specs.Core.{Core, environment}

@@ -1,5 +1,5 @@
 -- What a core keeps from call to call.
-use Rattle.std.specs.Prelude.{◌≡◌, ◌≤◌, true, false, []}
+use Rattle.std.specs.Prelude.{◌≡◌, ◌≤◌, true, false, [], IsTrue}
 use Rattle.disk.specs.declared.storage.Disk.{Ghosts}
 use Rattle.disk.specs.declared.side.Side.{Side}
 use Rattle.disk.specs.File.{File}

@@ -1,7 +1,7 @@
 -- What an opening and a creation return.
 use Rattle.disk.specs.Storage.{Errs, ReportsAs}
 use Rattle.disk.specs.declared.storage.Disk.{Ghosts}
-use Rattle.std.specs.Prelude.{◌≡◌, ℕ, false, [], Some, Result, Ok, Err, IfOk, IfErr, IsTrue}
+use Rattle.std.specs.Prelude.{◌≡◌, false, [], Some, Result, Ok, Err, IfOk, IfErr, IsTrue}
 use Rattle.disk.specs.declared.side.Side.{Side}
 use Rattle.disk.specs.File.{File}
 use Rattle.terms.specs.declared.name.Inst.{Inst}

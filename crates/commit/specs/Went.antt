@@ -1,7 +1,7 @@
 -- How a core goes on by commits that come one after another: by those of a run, or of a session, or of any other calls.
 use Rattle.disk.specs.Storage.{Errs, Leaves}
 use Rattle.disk.specs.declared.storage.Disk.{Ghosts}
-use Rattle.std.specs.Prelude.{◌≡◌, ◌≤◌, ◌+◌, ◌↔◌, ℕ, true, false, List, [], ◌++◌, IsTrue}
+use Rattle.std.specs.Prelude.{◌≡◌, ◌≤◌, ◌+◌, ◌↔◌, true, false, List, [], ◌++◌, IsTrue}
 use Rattle.terms.specs.Commits.{Commit, environment_behind, events_of, facts_behind}
 use Rattle.terms.specs.Facts.{Fact}
 use Rattle.machine.specs.State.{AreLegalFrom}

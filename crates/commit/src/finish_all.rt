@@ -20,7 +20,7 @@ impl<D: Disk> Core<D> {
     ghost use Rattle.machine.specs.Machine.{HasRoom};
     ghost use Rattle.machine.specs.State.{AreLegalFrom};
     ghost use Rattle.commit.specs.Core.{facts, graph, is_halted};
-        ghost use Rattle.commit.specs.Batch.{AreOutcomesOf, EndTheFirst, EndsAll, GivesBackAll, RefusesAllFirst, RefusesEndsAs, TakesAll, ends_said};
+    ghost use Rattle.commit.specs.Batch.{AreOutcomesOf, EndTheFirst, EndsAll, GivesBackAll, RefusesAllFirst, RefusesEndsAs, TakesAll, ends_said};
     ghost use Rattle.commit.specs.Calls.{CrashLeaves, HaltsInDoubt};
     ghost use Rattle.commit.specs.Room.{AreDue, GivesRoom};
 

@@ -1,6 +1,6 @@
 -- Every list of moves of a store: whole calls and runs, those that a crash cuts off, crashes between calls, and openings.
 use Rattle.disk.specs.declared.storage.Disk.{Ghosts}
-use Rattle.std.specs.Prelude.{◌≡◌, ℕ, List, [], ◌∷◌, Result, Ok, Err, IsTrue}
+use Rattle.std.specs.Prelude.{◌≡◌, ℕ, List, [], ◌∷◌, Result, Ok, Err}
 use Rattle.terms.specs.Commits.{Commit}
 use Rattle.vault.specs.declared.refused.Refused.{Refused}
 use Rattle.vault.specs.Commits.{IsLeft}

@@ -1,6 +1,6 @@
 -- A run as a move.
 use Rattle.disk.specs.declared.storage.Disk.{Ghosts}
-use Rattle.std.specs.Prelude.{◌≡◌, ℕ, Bool, false, Result, IsTrue}
+use Rattle.std.specs.Prelude.{◌≡◌, ℕ, Bool, false, Result}
 use Rattle.commit.specs.declared.verdict.RunError.{RunError}
 use Rattle.commit.specs.declared.verdict.Verdict.{Verdict}
 use Rattle.commit.specs.Core.{Core, is_halted}

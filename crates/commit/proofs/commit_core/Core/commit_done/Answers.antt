@@ -1,4 +1,4 @@
-use Rattle.std.proofs.Common.{◌≡◌, ◌∙◌, ap, inl, subst, sym, [], ◌∷◌, List, Ok, Err, IsTrue}
+use Rattle.std.proofs.Common.{◌≡◌, ◌∙◌, ap, inl, rules, subst, sym, [], ◌∷◌, List, Ok, Err}
 use Rattle.terms.specs.declared.put.Put.{Put}
 use Rattle.terms.specs.declared.event.Event.{Event}
 use Rattle.terms.specs.declared.event.Event.TheVariants.{Done}
@@ -17,8 +17,12 @@ use Rattle.commit.proofs.commit_core.Core.commit_done.Goals as goal
 pub make_room_for-requires : goal.make_room_for-requires
 make_room_for-requires g c = subst (λ (puts : List Put). IsLegal (graph c.args.self.now) (facts c.args.self.now) (Done c.args.task puts)) (sym c.as_slice.ensures) c.requires.legal
 
-pub commit_step-requires-clause-due-ROOM : goal.commit_step-requires-clause-due-ROOM
-commit_step-requires-clause-due-ROOM g c = subst (λ (puts : List Put). HasRoom c.make_room_for.new.self.machine puts) c.as_slice.ensures c.in-Ok.ensures.ok
+pub commit_step-requires-clause-due : goal.commit_step-requires-clause-due
+commit_step-requires-clause-due g c = record {
+  working = search rules;
+  legal = search rules;
+  room = subst (λ (puts : List Put). HasRoom c.make_room_for.new.self.machine puts) c.as_slice.ensures c.in-Ok.ensures.ok;
+}
 
 pub returns-in-Ok-commit_step-clause-commits : goal.returns-in-Ok-commit_step-clause-commits
 returns-in-Ok-commit_step-clause-commits g c =

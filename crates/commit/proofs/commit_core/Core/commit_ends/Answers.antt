@@ -1,4 +1,4 @@
-use Rattle.std.proofs.Common.{◌≡◌, ◌∙◌, ◌-◌, ◌+◌, List, drop, false, cond, ap, length, refl, rules, sym, subst, arith}
+use Rattle.std.proofs.Common.{◌≡◌, ◌∙◌, ◌-◌, ◌+◌, List, drop, false, cond, Err, ap, length, refl, rules, sym, subst, arith}
 use Rattle.std.specs.List.{AllByRecursion}
 use Rattle.terms.specs.declared.name.Inst.{Inst}
 use Rattle.terms.specs.declared.event.Event.{Event}
@@ -10,12 +10,14 @@ use Rattle.machine.specs.Group.{GivesAllBack, TakesInTurn}
 use Rattle.machine.specs.Machine.{environment as environment_of, facts as facts_of}
 use Rattle.machine.specs.State.{AreLegalFrom}
 use Rattle.vault.specs.Store.{Holds}
-use Rattle.commit.specs.Batch.{TakesAll}
+use Rattle.commit.specs.declared.error.CoreError.TheVariants.{Store}
+use Rattle.commit.specs.Batch.{RefusesAll, TakesAll}
 use Rattle.commit.specs.Core.{Core, facts, graph, is_halted}
-use Rattle.commit.specs.Calls.{CrashLeaves, commit_length}
+use Rattle.commit.specs.Calls.{AreTooLong, CrashLeaves, commit_length}
 use Rattle.commit.specs.declared.events.Events.TheVariants.{Several}
 use Rattle.commit.specs.Doubt.{events_in}
 use Rattle.commit.proofs.Taken.{all_fit, kept_alike, kept_refused, kept_taken_all, several_kept}
+use Rattle.commit.proofs.Together.{refused_due}
 use Rattle.commit.proofs.commit_core.Core.commit_ends.Goals as goal
 
 pub append_all-requires-clause-puts : goal.append_all-requires-clause-puts
@@ -124,3 +126,16 @@ returns-in-Err-clause-moments g c honest =
       facts = (c.append_all.ensures.adds honest m.graph (environment_of m) (facts_of m) holds).any_moment fit;
       gates = (c.append_all.ensures.adds honest m.graph (environment_of m) (facts_of m) holds).gates;
     })
+
+pub returns-in-Err-clause-refused : goal.returns-in-Err-clause-refused
+returns-in-Err-clause-refused g c =
+    let before = c.self.inside in
+    let old : Core g.row.D.Denot = record { vault = before.vault; machine = before.machine; in_doubt = events_in before.in_doubt; latest = events_in before.latest; allowance = before.allowance } in
+    let ends = c.args.ends.items in
+    let it = c.in-Err.ensures in
+    let working : is_halted old ≡ false = ap is_halted c.self.view_is ∙ c.requires.due.working in
+    let legal = subst (λ (core : Core g.row.D.Denot). AreLegalFrom (graph core) (facts core) ends) (sym c.self.view_is) c.requires.due.legal in
+    let why = refused_due old ends c.in-Err.error working legal c.requires.tasks.some it.halting.causes (λ is. it.halting.halted.0 (ap Err is))
+    (λ is. subst (λ (list : List Event). AreTooLong old list) c.deref.ensures.value (it.full.why (ap Err is)))
+    in
+    record { refused = subst (λ (core : Core g.row.D.Denot). RefusesAll core ends (Store c.in-Err.error)) c.self.view_is why; full = search rules }

@@ -1,4 +1,4 @@
-use Rattle.std.proofs.Common.{◌≡◌, ◌∙◌, ◌+◌, List, [], false, cond, ap, refl, rules, sym, subst}
+use Rattle.std.proofs.Common.{◌≡◌, ◌∙◌, ◌+◌, List, [], arith, false, cond, ap, refl, rules, sym, subst}
 use Rattle.std.specs.List.{AllByRecursion}
 use Rattle.terms.specs.declared.event.Event.{Event}
 use Rattle.terms.specs.Facts as stated
@@ -84,7 +84,7 @@ returns-in-Ok-clause-ok g c =
       generation = generation;
     }
     in
-    (c.len-count.ensures, subst (λ (core : Core g.row.D.Denot). TakesPuts core new c.args.puts.items) c.self.view_is it)
+    (omega (arith, c.len-count.ensures), subst (λ (core : Core g.row.D.Denot). TakesPuts core new c.args.puts.items) c.self.view_is it)
 
 pub returns-in-Ok-clause-moments : goal.returns-in-Ok-clause-moments
 returns-in-Ok-clause-moments g c honest =

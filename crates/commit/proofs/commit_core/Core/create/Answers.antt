@@ -18,16 +18,16 @@ returns-in-Ok-made-clause-created g c =
     record { reads = subst (λ (h : Graph). Reads c.args.text.now h) (sym it.graph) c.in-Ok.ensures.reads; facts = it.facts; environment = it.environment; opened = it.opened; generation = it.generation; gates = c.in-Ok-made.ensures.gates }
 
 pub returns-in-Ok-made-clause-others : goal.returns-in-Ok-made-clause-others
-returns-in-Ok-made-clause-others g c honest = others_ok _ _ _ (c.in-Ok-made.ensures.others honest)
+returns-in-Ok-made-clause-others g c honest = others_ok g.D.Disk _ _ (c.in-Ok-made.ensures.others honest)
 
 pub returns-in-Ok-clause-refused : goal.returns-in-Ok-clause-refused
 returns-in-Ok-clause-refused g c = ((c.in-Ok.graph, c.in-Ok.ensures.reads), c.in-Err-made.ensures.refused.errors)
 
 pub returns-in-Ok-clause-others : goal.returns-in-Ok-clause-others
-returns-in-Ok-clause-others g c honest = others _ _ _ (c.in-Err-made.ensures.others honest)
+returns-in-Ok-clause-others g c honest = others g.D.Disk _ _ (c.in-Err-made.ensures.others honest)
 
 pub returns-in-Ok-clause-causes : goal.returns-in-Ok-clause-causes
-returns-in-Ok-clause-causes g c = causes _ _ _ c.in-Err-made.ensures.refused.causes
+returns-in-Ok-clause-causes g c = causes g.D.Disk _ _ c.in-Err-made.ensures.refused.causes
 
 pub returns-clause-others : goal.returns-clause-others
 returns-clause-others g c honest = record {
@@ -41,4 +41,4 @@ pub returns-clause-begins : goal.returns-clause-begins
 returns-clause-begins g c honest empty = left_empty g.D.Disk (g.met.D.Disk.at_now honest) c.args.disk empty
 
 pub returns-clause-causes : goal.returns-clause-causes
-returns-clause-causes g c = unasked _ _ _ _ c.args.disk not_of_text
+returns-clause-causes g c = unasked g.D.Disk _ _ _ c.args.disk not_of_text

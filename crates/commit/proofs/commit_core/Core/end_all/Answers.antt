@@ -1,4 +1,4 @@
-use Rattle.std.proofs.Common.{◌≡◌, ◌∙◌, sym, subst, length, arith, List, Err, IsTrue}
+use Rattle.std.proofs.Common.{◌≡◌, ◌∙◌, sym, subst, length, arith, rules, List, Err}
 use Rattle.terms.specs.declared.event.Event.{Event}
 use Rattle.machine.specs.GroupLaws.{IsOfEnds}
 use Rattle.commit.specs.Batch.{GivesBackAll}
@@ -8,9 +8,13 @@ use Rattle.commit.proofs.Roomy.{halts}
 use Rattle.commit.proofs.Together.{all_run, finishes, gives_back, halts_first, refused_first, run_after, tried_within}
 use Rattle.commit.proofs.commit_core.Core.end_all.Goals as goal
 
-pub commit_ends-answer-requires-clause-tasks-RUNNING : goal.commit_ends-answer-requires-clause-tasks-RUNNING
-commit_ends-answer-requires-clause-tasks-RUNNING g c =
-    run_after c.args.self.now c.make_ready_for_ends.new.self c.make_ready_for_ends.ensures.same c.args.tasks (each_runs c.args.self.now.machine c.args.ends.items c.args.tasks c.requires.ended c.requires.here)
+pub commit_ends-answer-requires-clause-tasks : goal.commit_ends-answer-requires-clause-tasks
+commit_ends-answer-requires-clause-tasks g c = record {
+  ended = search rules;
+  running =
+      run_after c.args.self.now c.make_ready_for_ends.new.self c.make_ready_for_ends.ensures.same c.args.tasks (each_runs c.args.self.now.machine c.args.ends.items c.args.tasks c.requires.ended c.requires.here);
+  some = search rules;
+}
 
 pub release_all-requires : goal.release_all-requires
 release_all-requires g c =

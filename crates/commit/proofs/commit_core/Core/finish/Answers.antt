@@ -1,4 +1,4 @@
-use Rattle.std.proofs.Common.{◌≡◌, ◌∙◌, inl, refl, subst, sym, true, Err, IsTrue}
+use Rattle.std.proofs.Common.{◌≡◌, ◌∙◌, inl, refl, subst, sym, true, Err}
 use Rattle.terms.specs.declared.name.Inst.{Inst}
 use Rattle.terms.specs.declared.event.Event.{Event}
 use Rattle.terms.specs.declared.event.Event.TheVariants.{Done, Stopped}

@@ -18,8 +18,3 @@ pub end_all-requires-clause-some : goal.end_all-requires-clause-some
 end_all-requires-clause-some g c =
     let counted : length c.into_ends-tasks.result.1.items ≡ length c.args.batch.tasks = ap length c.into_ends-tasks.ensures.ends ∙ as_many (graph c.args.self.now) (facts c.args.self.now) c.args.batch.tasks c.args.batch.outcomes c.requires.outcomes in
     omega (arith, counted, c.into_ends-tasks.ensures.some)
-
-pub end_all-requires-clause-few : goal.end_all-requires-clause-few
-end_all-requires-clause-few g c =
-    let counted : length c.into_ends-tasks.result.1.items ≡ length c.args.batch.tasks = ap length c.into_ends-tasks.ensures.ends ∙ as_many (graph c.args.self.now) (facts c.args.self.now) c.args.batch.tasks c.args.batch.outcomes c.requires.outcomes in
-    omega (arith, counted, c.into_ends-tasks.ensures.few)

@@ -35,7 +35,7 @@ pub returns-in-Ok-create-clause-others : goal.returns-in-Ok-create-clause-others
 returns-in-Ok-create-clause-others g c honest = let it = c.in-Ok-create.ensures.non_empty honest in record { were_empty = it.were_empty; exists = λ is. absurd (cc is); kept = it.kept; moments = it.moments }
 
 pub returns-in-Ok-create-clause-refused : goal.returns-in-Ok-create-clause-refused
-returns-in-Ok-create-clause-refused g c = record { errors = tt; causes = made _ _ _ _ _ c.in-Ok-create.ensures.refused.causes; grown_first = λ is. absurd (cc is) }
+returns-in-Ok-create-clause-refused g c = record { errors = tt; causes = made g.D.Disk _ _ _ _ c.in-Ok-create.ensures.refused.causes; grown_first = λ is. absurd (cc is) }
 
 pub returns-in-Err-create-clause-others : goal.returns-in-Err-create-clause-others
 returns-in-Err-create-clause-others g c honest = let it = c.in-Err-create.ensures.non_empty honest in record { were_empty = tt; exists = λ is. it.exists (same_error is); kept = it.kept; moments = it.moments }
@@ -43,7 +43,7 @@ returns-in-Err-create-clause-others g c honest = let it = c.in-Err-create.ensure
 pub returns-in-Err-create-clause-refused : goal.returns-in-Err-create-clause-refused
 returns-in-Err-create-clause-refused g c =
     let it = c.in-Err-create.ensures.refused in
-    record { errors = it.errors; causes = refused_alike _ _ _ _ _ it.causes; grown_first = λ is. it.grown_first (same_error is) }
+    record { errors = it.errors; causes = refused_alike g.D.Disk _ _ _ _ it.causes; grown_first = λ is. it.grown_first (same_error is) }
 
 pub returns-in-Err-clause-others : goal.returns-in-Err-clause-others
 returns-in-Err-clause-others g c honest = record {
@@ -57,7 +57,7 @@ pub returns-in-Err-clause-begins : goal.returns-in-Err-clause-begins
 returns-in-Err-clause-begins g c honest empty = left_empty g.D.Disk (g.met.D.Disk.at_now honest) c.args.disk empty
 
 pub returns-in-Err-clause-refused : goal.returns-in-Err-clause-refused
-returns-in-Err-clause-refused g c = record { errors = inr (inl refl); causes = unasked _ _ _ _ c.args.disk not_failed; grown_first = λ is same. refl }
+returns-in-Err-clause-refused g c = record { errors = inr (inl refl); causes = unasked g.D.Disk _ _ _ c.args.disk not_failed; grown_first = λ is same. refl }
 
 pub returns-in-Ok-create-clause-gates : goal.returns-in-Ok-create-clause-gates
 returns-in-Ok-create-clause-gates g c honest = let it = c.in-Ok-create.ensures.created honest in at_rest_gates g.D.Disk.files c.in-Ok-create.vault.disk _ it.a it.b

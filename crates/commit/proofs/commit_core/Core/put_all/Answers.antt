@@ -1,4 +1,4 @@
-use Rattle.std.proofs.Common.{◌≡◌, ◌∙◌, ◌≤◌, ℕ, List, ap, arith, false, length, refl, rules, subst, sym, take, IsTrue}
+use Rattle.std.proofs.Common.{◌≡◌, ◌∙◌, ◌≤◌, ℕ, List, ap, arith, false, length, refl, rules, subst, sym, take}
 use Rattle.terms.specs.declared.event.Event.{Event}
 use Rattle.machine.specs.Machine.{facts as facts_of}
 use Rattle.machine.specs.Puts.{PutsTogether}

@@ -1,4 +1,4 @@
-use Rattle.std.proofs.Common.{subst, to_z, of_z, w64, IsTrue}
+use Rattle.std.proofs.Common.{subst, to_z, of_z, w64}
 use Rattle.std.proofs.lemmas.Int.{to_z-of_z}
 use Rattle.terms.specs.declared.event.Event.{Event}
 use Rattle.terms.specs.declared.event.Event.TheVariants.{EnvItem}

@@ -1,4 +1,3 @@
-use Rattle.std.proofs.Common.{IsTrue}
 use Rattle.terms.specs.declared.event.Event.TheVariants.{EnvTag}
 use Rattle.machine.specs.Machine.{RefusesTag}
 use Rattle.commit.specs.Core.{facts, graph}

@@ -1,4 +1,4 @@
-use Rattle.std.proofs.Common.{◌≡◌, Result, Err, sym, subst, IsTrue}
+use Rattle.std.proofs.Common.{◌≡◌, Result, Err, sym, subst}
 use Rattle.vault.specs.declared.error.VaultError.TheVariants.{NoMemory}
 use Rattle.commit.specs.declared.error.CoreError.{CoreError}
 use Rattle.commit.specs.declared.error.CoreError.TheVariants.{Store}

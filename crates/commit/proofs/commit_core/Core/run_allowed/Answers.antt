@@ -1,4 +1,3 @@
-use Rattle.std.proofs.Common.{IsTrue}
 use Rattle.commit.proofs.Running.{as_it_was}
 use Rattle.commit.proofs.commit_core.Core.run_allowed.Goals as goal
 

@@ -1,4 +1,3 @@
-use Rattle.std.proofs.Common.{IsTrue}
 use Rattle.commit.proofs.Driven.{begins, driven_on}
 use Rattle.commit.proofs.Joined.{goes_on}
 use Rattle.commit.proofs.commit_core.Core.run_ends.Goals as goal

@@ -1,4 +1,3 @@
-use Rattle.std.proofs.Common.{IsTrue}
 use Rattle.commit.proofs.Driven.{Driven}
 use Rattle.commit.proofs.commit_core.Core.run_ends.Given as goal
 

@@ -1,4 +1,4 @@
-use Rattle.std.proofs.Common.{[], ◌∷◌, IsTrue}
+use Rattle.std.proofs.Common.{[], ◌∷◌}
 use Rattle.commit.proofs.Allowed.{some_left}
 use Rattle.commit.proofs.Idle.{behind_end, ends}
 use Rattle.commit.proofs.Running.{ends_early, handed_back, is_end, looked, moved, rests}

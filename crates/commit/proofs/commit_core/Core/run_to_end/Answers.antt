@@ -1,4 +1,4 @@
-use Rattle.std.proofs.Common.{◌∙◌, IsTrue, ap}
+use Rattle.std.proofs.Common.{◌∙◌, ap, rules}
 use Rattle.std.proofs.lemmas.Bool.{false≢true}
 use Rattle.terms.specs.Facts.{bad}
 use Rattle.commit.specs.Core.{is_halted}
@@ -8,10 +8,10 @@ use Rattle.commit.proofs.commit_core.Core.run_to_end.Goals as goal
 pub loop-alloc-init : goal.loop-alloc-init
 loop-alloc-init g c = begins g.D.Disk c.facts_are_told_apart.ensures.among (λ on. (c.stores_go_on.ensures.gates on).stay) (λ on. (c.stores_go_on.ensures.rest on).commits) (λ on. (c.stores_go_on.ensures.gates on).rest) c.args.graph.now c.args.self.now c.requires.graph c.requires.idle c.requires.working (c.is_kept.ensures.settled c.requires.working) c.is_kept.ensures.kept
 
-pub run_task-requires-clause-no_fault : goal.run_task-requires-clause-no_fault
-run_task-requires-clause-no_fault g c instance kind =
+pub run_task-requires-clause-goes_on : goal.run_task-requires-clause-goes_on
+run_task-requires-clause-goes_on g c =
     let claimed = of_claim c.loop-alloc.self c.claim.new.self c.pick.result _ c.in-Ok-Some.task c.in-Ok-Some.field-0-is c.in-Ok-Some.ensures.claimed in
-    claimed.2.machine.facts (bad instance kind) ∙ claimed.0.working instance kind
+    (search rules, λ instance kind. claimed.2.machine.facts (bad instance kind) ∙ claimed.0.working instance kind)
 
 pub returns-in-Ok-true-clause-runs : goal.returns-in-Ok-true-clause-runs
 returns-in-Ok-true-clause-runs g c =

@@ -1,4 +1,4 @@
-use Rattle.std.proofs.Common.{◌≡◌, ◌∙◌, ap, length, max, subst, false, IsTrue, arith}
+use Rattle.std.proofs.Common.{◌≡◌, ◌∙◌, ap, length, max, subst, false, arith}
 use Rattle.terms.specs.Commits.{events_of}
 use Rattle.commit.specs.Core.{Core, facts, graph}
 use Rattle.commit.specs.Runs.{IsFull, MetFull, Runs, with_allowance}

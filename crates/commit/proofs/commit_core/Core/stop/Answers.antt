@@ -1,4 +1,4 @@
-use Rattle.std.proofs.Common.{ap, subst, sym, [], ◌∷◌, IsTrue}
+use Rattle.std.proofs.Common.{ap, subst, sym, [], ◌∷◌}
 use Rattle.terms.specs.declared.event.Event.{Event}
 use Rattle.terms.specs.declared.event.Event.TheVariants.{Stopped}
 use Rattle.machine.specs.Legal.{IsLegal}

@@ -1,4 +1,4 @@
-use Rattle.std.proofs.Common.{◌≡◌, ◌∙◌, ap, sym, subst, ℕ, false, Result, IsTrue}
+use Rattle.std.proofs.Common.{◌≡◌, ◌∙◌, ap, sym, subst, ℕ, false, Result}
 use Rattle.machine.specs.Machine.{environment as environment_of, facts as facts_of}
 use Rattle.vault.specs.Calls.{SpellsFacts}
 use Rattle.commit.specs.declared.error.CoreError.{CoreError}
@@ -54,7 +54,7 @@ invariant_of-self g c =
           let holds = (c.self.invariant.1 honest).holds working in
           kept_either g.D.Disk (g.met.D.Disk.at_now honest) ((c.stores_go_on.ensures.rest honest).held) c.stores_go_on.ensures.calls.refused
           before.vault turned.new.self m before.in_doubt (events_in before.latest) before.allowance turned.result working (c.self.invariant.0 working) holds
-          (turned.ensures.turned honest m.graph (environment_of m) (facts_of m) holds image) turned.ensures.halting.same,
+          ((turned.ensures.turns honest m.graph (environment_of m) (facts_of m) holds).turned image) turned.ensures.halting.same,
       c.self.invariant.2,
     )
 
@@ -71,10 +71,10 @@ returns g c =
     subst (λ (r : Result ℕ CoreError). TurnsAs g.D.Disk c.args.self.now new r) (sym told)
     (subst (λ (old : Core g.row.D.Denot). TurnsAs g.D.Disk old new (answer_of turned.result)) c.self.view_is
     (either g.D.Disk before.vault turned.new.self m before.in_doubt before.latest before.allowance spells.image spells.listed spells.lists working
-    c.in-Ok.source spells.spelled turned.result turned.ensures.over turned.ensures.written turned.ensures.full turned.ensures.halting c.self.invariant.1 (ap events_in (c.self.invariant.0 working))
+    c.in-Ok.source spells.spelled turned.result turned.ensures.over turned.ensures.written turned.ensures.refused.full turned.ensures.halting c.self.invariant.1 (ap events_in (c.self.invariant.0 working))
     (λ honest.
     let holds = (c.self.invariant.1 honest).holds working in
     record {
-      facts = turned.ensures.any_moment honest m.graph (environment_of m) (facts_of m) holds image;
-      gates = turned.ensures.gates honest m.graph (environment_of m) (facts_of m) holds;
+      facts = (turned.ensures.turns honest m.graph (environment_of m) (facts_of m) holds).any_moment image;
+      gates = (turned.ensures.turns honest m.graph (environment_of m) (facts_of m) holds).gates;
     })))

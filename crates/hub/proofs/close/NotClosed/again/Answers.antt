@@ -1,4 +1,4 @@
-use Rattle.std.proofs.Common.{List, IfOk, IsTrue, subst}
+use Rattle.std.proofs.Common.{List, IfOk, subst}
 use Rattle.passes.specs.Known.{Known, Made}
 use Rattle.hub.specs.Kept.{HasRun}
 use Rattle.hub.specs.Whole.{IsWhole}

@@ -1,4 +1,4 @@
-use Rattle.std.proofs.Common.{◌≡◌, ◌<◌, ◌++◌, ℕ, true, List, IfOk, IfErr, IsTrue, OnOk}
+use Rattle.std.proofs.Common.{◌≡◌, ◌<◌, ◌++◌, ℕ, true, List, IfOk, IfErr, OnOk}
 use Rattle.commit.specs.Runs.{NoneRuns}
 use Rattle.hub.specs.Kept.{HasRun}
 use Rattle.passes.specs.Known.{Made}

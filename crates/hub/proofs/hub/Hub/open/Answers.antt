@@ -1,4 +1,4 @@
-use Rattle.std.proofs.Common.{IsTrue, ◌∙◌, ◌+◌, sym}
+use Rattle.std.proofs.Common.{◌∙◌, ◌+◌, sym}
 use Rattle.hub.proofs.Opened.{kept_opened}
 use Rattle.hub.proofs.Since.{ran_nothing}
 use Rattle.hub.proofs.hub.Hub.open.Goals as goal

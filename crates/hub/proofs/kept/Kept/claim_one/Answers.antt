@@ -1,4 +1,4 @@
-use Rattle.std.proofs.Common.{◌∙◌, Ok, Option, Some, IsTrue, Result, ap, inr, refl, subst, sym}
+use Rattle.std.proofs.Common.{◌∙◌, Ok, Option, Some, Result, ap, inr, refl, subst, sym}
 use Rattle.terms.specs.declared.name.Inst.{Inst}
 use Rattle.commit.specs.declared.error.CoreError.{CoreError}
 use Rattle.commit.specs.Core.{Core}

@@ -1,4 +1,4 @@
-use Rattle.std.proofs.Common.{◌≡◌, ◌∙◌, ◌∷◌, [], false, IsTrue, subst, sym}
+use Rattle.std.proofs.Common.{◌≡◌, ◌∙◌, ◌∷◌, [], false, subst, sym}
 use Rattle.terms.specs.declared.event.Event.{Event}
 use Rattle.machine.specs.Machine.{RefusesEnd}
 use Rattle.commit.specs.Core.{is_halted}

@@ -1,4 +1,4 @@
-use Rattle.std.proofs.Common.{◌≡◌, ◌∙◌, ◌∷◌, ◌+◌, ◌<◌, ◌++◌, [], ℕ, List, length, arith, false, IsTrue, ap, subst, sym}
+use Rattle.std.proofs.Common.{◌≡◌, ◌∙◌, ◌∷◌, ◌+◌, ◌<◌, ◌++◌, [], ℕ, List, length, arith, false, ap, subst, sym}
 use Rattle.terms.specs.declared.event.Event.{Event}
 use Rattle.terms.specs.declared.name.Inst.{Inst}
 use Rattle.machine.specs.Group.{AreRunning, cut}

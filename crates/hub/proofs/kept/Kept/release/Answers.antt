@@ -1,4 +1,4 @@
-use Rattle.std.proofs.Common.{IsTrue, subst, sym}
+use Rattle.std.proofs.Common.{subst, sym}
 use Rattle.passes.specs.Known.{Desk}
 use Rattle.hub.specs.Kept.{HasRun, IsKept}
 use Rattle.hub.proofs.Keeping.{kept_moved}
