@@ -5,7 +5,7 @@ ghost use Rattle.std.specs.Prelude.{◌<◌, length};
 ghost use Rattle.disk.specs.MemDisk.{files_of};
 
 use disk::{Disk, MemDisk, Side};
-use journal::{AppendError, Ground, Journal, Payloads, begins_closed, first_payload};
+use journal::{Journal, JournalError, Payloads, begins_closed, first_payload};
 use std::alloc::{AllocError, Global};
 
 /// What some bytes begin with.
@@ -54,13 +54,14 @@ pub(crate) fn record(
     if at > count {
         return out.push_str("behind the end");
     }
-    match Journal::start(alloc, disk, side, at) {
-        Ok(journal) => append(disk, journal, failing, payload, out),
+    match Journal::start(disk, side, at) {
+        Ok(journal) => append(alloc, disk, journal, failing, payload, out),
         Err(error) => write!(out, "not begun: {error}"),
     }
 }
 
 fn append(
+    alloc: Global,
     disk: &mut MemDisk,
     mut journal: Journal,
     failing: u64,
@@ -70,16 +71,12 @@ fn append(
     requires { journal.end < length (files_of disk.old journal.side).content }
 {
     disk.fail_call(failing);
-    let nothing = Ground::Lay {
-        ahead: &[],
-        zeros: 0,
-    };
-    let answer = journal.try_append(disk, payload, nothing);
+    let answer = journal.append(alloc, disk, payload);
     tell_append(answer, journal.end, out)
 }
 
 fn tell_append(
-    answer: Result<(), AppendError>,
+    answer: Result<(), JournalError>,
     end: u64,
     out: &mut String,
 ) -> Result<(), AllocError> {
