@@ -70,11 +70,14 @@ pub stays_alike : (bytes other : List ℕ) (g : Graph) (n : ℕ) (E X : Facts) (
     → StandsFor (drop (start_of side) other) (map commit_bytes side.commits) → (same : IsSide other g n E X) × (end_of same ≡ end_of side)
 stays_alike bytes other g n E X side same stands = (again bytes other g n E X side same stands, refl)
 
--- ---- one commit more
+-- ---- some commits more
+
+all_both : {A : Type 0} (P : A → Type 0) (xs ys : List A) → AllByRecursion P xs → AllByRecursion P ys → AllByRecursion P (xs ++ ys)
+all_both P [] ys all others = others
+all_both P (first ∷ xs) ys all others = (all.0, all_both P xs ys all.1 others)
 
 pub one_more : {A : Type 0} (P : A → Type 0) (xs : List A) (x : A) → AllByRecursion P xs → P x → AllByRecursion P (xs ++ x ∷ [])
-one_more P [] x all last = (last, tt)
-one_more P (first ∷ xs) x all last = (all.0, one_more P xs x all.1 last)
+one_more P xs x all last = all_both P xs (x ∷ []) all (last, tt)
 
 -- a set that has the facts of a list has them too when both get more
 pub set_grown : AmongBoth → (old : List Fact) (X : Facts) (more : List Fact) → SameSet X (among old) → SameSet (with_facts X more) (among (old ++ more))
@@ -83,12 +86,12 @@ set_grown both old X more same fact = ap (λ (b : Bool). b || among more fact) (
 pub records_more : (payloads : List (List ℕ)) (payload : List ℕ) → records (payloads ++ payload ∷ []) ≡ records payloads ++ record_of payload
 records_more payloads payload = flat_map-append record_of payloads (payload ∷ []) ∙ ap (λ (last : List ℕ). records payloads ++ last) (append-nil (record_of payload))
 
-ends_later : (start : ℕ) (commits : List Commit) (commit : Commit)
-    → start + length (records (map commit_bytes (commits ++ commit ∷ []))) ≡ (start + length (records (map commit_bytes commits))) + length (record_of (commit_bytes commit))
-ends_later start commits commit =
-    let whole : length (records (map commit_bytes (commits ++ commit ∷ []))) ≡ length (records (map commit_bytes commits)) + length (record_of (commit_bytes commit)) =
-    ap length (ap records (map-append commit_bytes commits (commit ∷ [])) ∙ records_more (map commit_bytes commits) (commit_bytes commit))
-    ∙ length-append (records (map commit_bytes commits)) (record_of (commit_bytes commit)) in
+ends_later : (start : ℕ) (commits added : List Commit)
+    → start + length (records (map commit_bytes (commits ++ added))) ≡ (start + length (records (map commit_bytes commits))) + length (records (map commit_bytes added))
+ends_later start commits added =
+    let whole : length (records (map commit_bytes (commits ++ added))) ≡ length (records (map commit_bytes commits)) + length (records (map commit_bytes added)) =
+    ap length (ap records (map-append commit_bytes commits added) ∙ flat_map-append record_of (map commit_bytes commits) (map commit_bytes added))
+    ∙ length-append (records (map commit_bytes commits)) (records (map commit_bytes added)) in
     omega arith
 
 -- the events of two lists of commits
@@ -96,30 +99,28 @@ pub events_both : (one two : List Commit) → events_of (one ++ two) ≡ events_
 events_both [] two = refl
 events_both (commit ∷ one) two = ap (λ (events : List Event). commit ++ events) (events_both one two) ∙ sym (append_assoc commit (events_of one) (events_of two))
 
-events_more : (commits : List Commit) (commit : Commit) → events_of (commits ++ commit ∷ []) ≡ events_of commits ++ commit
-events_more commits commit = events_both commits (commit ∷ []) ∙ ap (λ (events : List Event). events_of commits ++ events) (append-nil commit)
+pub stated_on : FactsGoOn → (old : List Fact) (commits added : List Commit)
+    → (old ++ facts (events_of commits)) ++ facts (events_of added) ≡ old ++ facts (events_of (commits ++ added))
+stated_on facts_on old commits added =
+    append_assoc old (facts (events_of commits)) (facts (events_of added))
+    ∙ ap (λ (list : List Fact). old ++ list) (sym (facts_on (events_of commits) (events_of added)) ∙ ap facts (sym (events_both commits added)))
 
-pub stated_on : FactsGoOn → (old : List Fact) (commits : List Commit) (commit : Commit)
-    → (old ++ facts (events_of commits)) ++ facts commit ≡ old ++ facts (events_of (commits ++ commit ∷ []))
-stated_on facts_on old commits commit =
-    append_assoc old (facts (events_of commits)) (facts commit)
-    ∙ ap (λ (list : List Fact). old ++ list) (sym (facts_on (events_of commits) commit) ∙ ap facts (sym (events_more commits commit)))
+pub put_on : EnvironmentGoesOn → (old : List Fact) (commits added : List Commit)
+    → (old ++ environment (events_of commits)) ++ environment (events_of added) ≡ old ++ environment (events_of (commits ++ added))
+put_on given_on old commits added =
+    append_assoc old (environment (events_of commits)) (environment (events_of added))
+    ∙ ap (λ (list : List Fact). old ++ list) (sym (given_on (events_of commits) (events_of added)) ∙ ap environment (sym (events_both commits added)))
 
-pub put_on : EnvironmentGoesOn → (old : List Fact) (commits : List Commit) (commit : Commit)
-    → (old ++ environment (events_of commits)) ++ environment commit ≡ old ++ environment (events_of (commits ++ commit ∷ []))
-put_on given_on old commits commit =
-    append_assoc old (environment (events_of commits)) (environment commit)
-    ∙ ap (λ (list : List Fact). old ++ list) (sym (given_on (events_of commits) commit) ∙ ap environment (sym (events_more commits commit)))
-
-pub fit_on : AllFitInParts → (g : Graph) (old : List Fact) (commits : List Commit) (commit : Commit) → AllFit g old (events_of commits) → AllFit g (old ++ facts (events_of commits)) commit
-    → AllFit g old (events_of (commits ++ commit ∷ []))
-fit_on parts g old commits commit before behind = subst (AllFit g old) (sym (events_more commits commit)) ((parts g old (events_of commits) commit).1 (before, behind))
+pub fit_on : AllFitInParts → (g : Graph) (old : List Fact) (commits added : List Commit) → AllFit g old (events_of commits) → AllFit g (old ++ facts (events_of commits)) (events_of added)
+    → AllFit g old (events_of (commits ++ added))
+fit_on parts g old commits added before behind = subst (AllFit g old) (sym (events_both commits added)) ((parts g old (events_of commits) (events_of added)).1 (before, behind))
 
 module _ (both : AmongBoth) (facts_on : FactsGoOn) (given_on : EnvironmentGoesOn) (parts : AllFitInParts) where
-  abbrev grown : (bytes other : List ℕ) (g : Graph) (n : ℕ) (E X : Facts) (side : IsSide bytes g n E X) (commit : Commit) → IsCommit MAX_COMPONENTS commit → AllFit g (facts_of side) commit
-      → take (start_of side) other ≡ take (start_of side) bytes → StandsFor (drop (start_of side) other) (map commit_bytes side.commits ++ commit_bytes commit ∷ [])
-      → IsSide other g n (with_facts E (environment commit)) (with_facts X (facts commit))
-  grown bytes other g n E X side commit is_commit fit same stands = record {
+  abbrev grown : (bytes other : List ℕ) (g : Graph) (n : ℕ) (E X : Facts) (side : IsSide bytes g n E X) (added : List Commit) → AllByRecursion (IsCommit MAX_COMPONENTS) added
+      → AllFit g (facts_of side) (events_of added) → take (start_of side) other ≡ take (start_of side) bytes
+      → StandsFor (drop (start_of side) other) (map commit_bytes side.commits ++ map commit_bytes added)
+      → IsSide other g n (with_facts E (environment (events_of added))) (with_facts X (facts (events_of added)))
+  grown bytes other g n E X side added are_commits fit same stands = record {
     format = side.format;
     is_known = side.is_known;
     small = side.small;
@@ -127,20 +128,43 @@ module _ (both : AmongBoth) (facts_on : FactsGoOn) (given_on : EnvironmentGoesOn
     image = side.image;
     is_image = side.is_image;
     counted_image = side.counted_image;
-    commits = side.commits ++ commit ∷ [];
-    are_commits = one_more (IsCommit MAX_COMPONENTS) side.commits commit side.are_commits is_commit;
+    commits = side.commits ++ added;
+    are_commits = all_both (IsCommit MAX_COMPONENTS) side.commits added side.are_commits are_commits;
     journal = drop (start_of side) other;
-    records = subst (λ (list : List (List ℕ)). StandsFor (drop (start_of side) other) list) (sym (map-append commit_bytes side.commits (commit ∷ []))) stands;
+    records = subst (λ (list : List (List ℕ)). StandsFor (drop (start_of side) other) list) (sym (map-append commit_bytes side.commits added)) stands;
     spelled = begins_so bytes g n E X side other same;
     image_fits = side.image_fits;
-    events_fit = fit_on parts g (image_facts side.image) side.commits commit side.events_fit fit;
-    environment = λ fact. set_grown both (image_environment side.image ++ environment (events_of side.commits)) E (environment commit) side.environment fact
-        ∙ ap (λ (list : List Fact). among list fact) (put_on given_on (image_environment side.image) side.commits commit);
-    facts = λ fact. set_grown both (facts_of side) X (facts commit) side.facts fact ∙ ap (λ (list : List Fact). among list fact) (stated_on facts_on (image_facts side.image) side.commits commit);
+    events_fit = fit_on parts g (image_facts side.image) side.commits added side.events_fit fit;
+    environment = λ fact. set_grown both (image_environment side.image ++ environment (events_of side.commits)) E (environment (events_of added)) side.environment fact
+        ∙ ap (λ (list : List Fact). among list fact) (put_on given_on (image_environment side.image) side.commits added);
+    facts = λ fact. set_grown both (facts_of side) X (facts (events_of added)) side.facts fact
+        ∙ ap (λ (list : List Fact). among list fact) (stated_on facts_on (image_facts side.image) side.commits added);
   }
 
-  pub grows_by_commit : (bytes other : List ℕ) (g : Graph) (n : ℕ) (E X : Facts) (side : IsSide bytes g n E X) (commit : Commit) → IsCommit MAX_COMPONENTS commit → AllFit g (facts_of side) commit
-      → take (start_of side) other ≡ take (start_of side) bytes → StandsFor (drop (start_of side) other) (map commit_bytes side.commits ++ commit_bytes commit ∷ [])
-      → (it : IsSide other g n (with_facts E (environment commit)) (with_facts X (facts commit))) × (end_of it ≡ end_of side + length (record_of (commit_bytes commit)))
-  grows_by_commit bytes other g n E X side commit is_commit fit same stands =
-      (grown bytes other g n E X side commit is_commit fit same stands, ends_later (start_of side) side.commits commit)
+  pub grows_by_commits : (bytes other : List ℕ) (g : Graph) (n : ℕ) (E X : Facts) (side : IsSide bytes g n E X) (added : List Commit) → AllByRecursion (IsCommit MAX_COMPONENTS) added
+      → AllFit g (facts_of side) (events_of added) → take (start_of side) other ≡ take (start_of side) bytes
+      → StandsFor (drop (start_of side) other) (map commit_bytes side.commits ++ map commit_bytes added)
+      → (it : IsSide other g n (with_facts E (environment (events_of added))) (with_facts X (facts (events_of added)))) × (end_of it ≡ end_of side + length (records (map commit_bytes added)))
+  grows_by_commits bytes other g n E X side added are_commits fit same stands =
+      (grown bytes other g n E X side added are_commits fit same stands, ends_later (start_of side) side.commits added)
+
+-- ---- one commit more
+
+-- what holds of the events of a list of one commit holds of that commit
+events_of_one : (P : Commit → Type 0) (commit : Commit) → P (events_of (commit ∷ [])) → P commit
+events_of_one P commit = subst P (append-nil commit)
+
+pub stated_on_one : FactsGoOn → (old : List Fact) (commits : List Commit) (commit : Commit)
+    → (old ++ facts (events_of commits)) ++ facts commit ≡ old ++ facts (events_of (commits ++ commit ∷ []))
+stated_on_one facts_on old commits commit =
+    events_of_one (λ (events : Commit). (old ++ facts (events_of commits)) ++ facts events ≡ old ++ facts (events_of (commits ++ commit ∷ []))) commit (stated_on facts_on old commits (commit ∷ []))
+
+pub put_on_one : EnvironmentGoesOn → (old : List Fact) (commits : List Commit) (commit : Commit)
+    → (old ++ environment (events_of commits)) ++ environment commit ≡ old ++ environment (events_of (commits ++ commit ∷ []))
+put_on_one given_on old commits commit =
+    events_of_one (λ (events : Commit). (old ++ environment (events_of commits)) ++ environment events ≡ old ++ environment (events_of (commits ++ commit ∷ []))) commit (put_on given_on old commits (commit ∷ []))
+
+pub fit_on_one : AllFitInParts → (g : Graph) (old : List Fact) (commits : List Commit) (commit : Commit) → AllFit g old (events_of commits) → AllFit g (old ++ facts (events_of commits)) commit
+    → AllFit g old (events_of (commits ++ commit ∷ []))
+fit_on_one parts g old commits commit before behind =
+    fit_on parts g old commits (commit ∷ []) before (subst (AllFit g (old ++ facts (events_of commits))) (sym (append-nil commit)) behind)

@@ -18,7 +18,7 @@ use Rattle.graph.specs.Fits.{AllFit}
 use Rattle.graph.specs.FitLaws.{AllFitInParts, EventsAsSet}
 use Rattle.sides.specs.Reading.{AreCommits, IsReplayed}
 use Rattle.sides.specs.Replaying.{IsTaken, IsRefused, IsTakenTo}
-use Rattle.sides.proofs.GoesOn.{one_more, set_grown, records_more, stated_on, put_on, fit_on, events_both}
+use Rattle.sides.proofs.GoesOn.{one_more, set_grown, records_more, stated_on_one, put_on_one, fit_on_one, events_both}
 use Rattle.sides.proofs.Once.{counted_once}
 use Rattle.terms.specs.declared.key.TheConstants.{MAX_COMPONENTS}
 
@@ -64,14 +64,14 @@ module _ (both : AmongBoth) (facts_on : FactsGoOn) (given_on : EnvironmentGoesOn
     leads = subst (LeadsTo bytes (end + length (record_of payload)))
         (ap (λ (last : List ℕ). map commit_bytes so_far.commits ++ last ∷ []) next.spelled.1 ∙ sym (map-append commit_bytes so_far.commits (next.commit ∷ [])))
         (leads_on bytes payload end (map commit_bytes so_far.commits) so_far.leads begins);
-    fit = fit_on parts g (image_facts (image_of old)) so_far.commits next.commit so_far.fit
+    fit = fit_on_one parts g (image_facts (image_of old)) so_far.commits next.commit so_far.fit
         (as_set g (image_facts (image_of now)) (image_facts (image_of old) ++ facts (events_of so_far.commits)) next.commit so_far.facts next.fit);
     facts = λ fact. next.grown.facts.same fact ∙ both (image_facts (image_of now)) (facts next.commit) fact
         ∙ set_grown both (image_facts (image_of old) ++ facts (events_of so_far.commits)) (facts_in (image_of now)) (facts next.commit) so_far.facts fact
-        ∙ ap (λ (list : List Fact). among list fact) (stated_on facts_on (image_facts (image_of old)) so_far.commits next.commit);
+        ∙ ap (λ (list : List Fact). among list fact) (stated_on_one facts_on (image_facts (image_of old)) so_far.commits next.commit);
     environment = λ fact. next.grown.environment.same fact ∙ both (image_environment (image_of now)) (environment next.commit) fact
         ∙ set_grown both (image_environment (image_of old) ++ environment (events_of so_far.commits)) (environment_in (image_of now)) (environment next.commit) so_far.environment fact
-        ∙ ap (λ (list : List Fact). among list fact) (put_on given_on (image_environment (image_of old)) so_far.commits next.commit);
+        ∙ ap (λ (list : List Fact). among list fact) (put_on_one given_on (image_environment (image_of old)) so_far.commits next.commit);
     counts = next.grown.counts ∙ so_far.counts;
   }
 
