@@ -1,6 +1,7 @@
 -- What a store stands for while a commit is appended, and afterwards.
 use Rattle.std.proofs.Common.{◌≡◌, ◌≢◌, ◌+◌, ◌≤◌, ◌<◌, ℕ, List, [], ◌∷◌, ◌++◌, length, take, drop, map, inl, inr, sym, ap, subst, ◌∙◌, arith, length-append, length-take, length-drop, take-append-drop}
 use Rattle.std.proofs.lemmas.List.{take-append-le}
+use Rattle.std.specs.List.{AllByRecursion}
 use Rattle.disk.specs.declared.side.Side.{Side}
 use Rattle.disk.specs.declared.side.Side.TheVariants.{A, B}
 use Rattle.disk.specs.Side.{which}
@@ -8,21 +9,24 @@ use Rattle.disk.specs.File.{File, MayLeave, at_rest, overwritten}
 use Rattle.disk.specs.Settled.{settled_only}
 use Rattle.disk.specs.Time.{Contents, MayLeaveNow, OtherStays, OtherMayBe, LeavesOnly}
 use Rattle.disk.specs.Moments.{weakened}
-use Rattle.terms.specs.Commits.{Commit}
+use Rattle.terms.specs.declared.event.Event.{Event}
+use Rattle.terms.specs.Commits.{Commit, events_of}
 use Rattle.terms.specs.Facts.{facts, environment}
 use Rattle.terms.specs.Sets.{Facts, with_facts}
 use Rattle.codec.specs.Commits.{commit_bytes, IsCommit}
-use Rattle.journal.specs.Records.{records, record_of}
+use Rattle.journal.specs.Records.{StandsFor, records}
 use Rattle.journal.specs.declared.journal.Journal.{Journal}
 use Rattle.journal.specs.Journal.{IsAt, BeforeOrAfter}
 use Rattle.graph.specs.Graph.{Graph}
 use Rattle.graph.specs.Fits.{AllFit, FitAfter}
 use Rattle.graph.specs.FitLaws.{FitAsListed}
 use Rattle.sides.specs.Side.{IsSide, start_of, end_of, facts_of}
-use Rattle.sides.specs.SideLaws.{HasJournal, StaysAlike, GrowsByCommit}
+use Rattle.sides.specs.SideLaws.{HasJournal, StaysAlike, GrowsByCommits}
 use Rattle.vault.specs.declared.vault.Vault.{Vault}
+use Rattle.vault.specs.Groups.{groups_of, payloads_of, records_of}
 use Rattle.vault.specs.Stands.{Stands, IsLive, IsBehind, other_side}
 use Rattle.vault.specs.Store.{Holds, StandsBeforeOrAfter}
+use Rattle.vault.proofs.Grouped.{same_events}
 use Rattle.terms.specs.declared.key.TheConstants.{MAX_COMPONENTS}
 
 other_differs : (side : Side) → other_side side ≢ side
@@ -30,8 +34,8 @@ other_differs A same = cc
 other_differs B same = cc
 
 -- what was appended to nothing is all
-pub alone : (all items front bytes : List ℕ) → all ≡ items → items ≡ front ++ bytes → front ≡ [] → all ≡ bytes
-alone all items front bytes is added none = is ∙ added ∙ ap (λ (l : List ℕ). l ++ bytes) none
+pub alone : (all front bytes : List ℕ) → all ≡ front ++ bytes → front ≡ [] → all ≡ bytes
+alone all front bytes added none = added ∙ ap (λ (l : List ℕ). l ++ bytes) none
 
 -- a write keeps what comes before it
 front_kept : (old bytes : List ℕ) (start from : ℕ) → start ≤ from → from ≤ length old → take start (overwritten old from bytes) ≡ take start old
@@ -83,10 +87,10 @@ module _ (has_journal : HasJournal) {D : Type 0} (files : D → Side → File) (
       let same : left there ≡ holds.contents there = settled_only (holds.contents there) (left there) (subst (λ (f : File). MayLeave f.durable (left there)) (holds.rests there) (others there (other_differs live))) in
       subst (λ (bytes : List ℕ). IsBehind bytes vault.generation) (sym same) holds.is_live.behind
 
-  module _ (alike : StaysAlike) (grows : GrowsByCommit) (commit : Commit) (is_commit : IsCommit MAX_COMPONENTS commit) (as_listed : FitAsListed) (fits : FitAfter g X commit) where
+  module _ (alike : StaysAlike) (grows : GrowsByCommits) (commit : Commit) (are_commits : AllByRecursion (IsCommit MAX_COMPONENTS) (groups_of commit)) (as_listed : FitAsListed) (fits : FitAfter g X commit) where
     -- the events fit after those of the side
-    fit : AllFit g (facts_of is_side) commit
-    fit = as_listed g X (facts_of is_side) commit is_side.facts fits
+    fit : AllFit g (facts_of is_side) (events_of (groups_of commit))
+    fit = subst (AllFit g (facts_of is_side)) (sym (same_events commit)) (as_listed g X (facts_of is_side) commit is_side.facts fits)
 
     abbrev E_after : Facts
     E_after = with_facts E (environment commit)
@@ -94,25 +98,30 @@ module _ (has_journal : HasJournal) {D : Type 0} (files : D → Side → File) (
     abbrev X_after : Facts
     X_after = with_facts X (facts commit)
 
+    -- bytes that go on with the records of the commit stand for what it leaves
+    grown : (bytes : List ℕ) → take start bytes ≡ take start (holds.contents live) → StandsFor (drop start bytes) (payloads ++ payloads_of commit)
+        → (is_grown : IsSide bytes g vault.generation E_after X_after) × (end_of is_grown ≡ end_of is_side + length (records_of commit))
+    grown bytes front stands = subst
+        (λ (events : List Event). (is_grown : IsSide bytes g vault.generation (with_facts E (environment events)) (with_facts X (facts events))) × (end_of is_grown ≡ end_of is_side + length (records_of commit)))
+        (same_events commit) (grows (holds.contents live) bytes g vault.generation E X is_side (groups_of commit) are_commits fit front stands)
+
     -- what a crash leaves while the commit is appended
-    stands_either : (left : Contents) → BeforeOrAfter start (holds.contents live) payloads (commit_bytes commit) (left live) × OtherMayBe live (files vault.disk) left → StandsBeforeOrAfter g E X commit left
+    stands_either : (left : Contents) → BeforeOrAfter start (holds.contents live) payloads (payloads_of commit) (left live) × OtherMayBe live (files vault.disk) left → StandsBeforeOrAfter g E X commit left
     stands_either left either = elim either.0.stands [
       | inl before ↦ inl (live, vault.generation, record { is_side = (alike (holds.contents live) (left live) g vault.generation E X is_side either.0.front before).0; behind = still_behind left either.1 })
-      | inr after ↦ inr (live, vault.generation, record { is_side = (grows (holds.contents live) (left live) g vault.generation E X is_side commit is_commit fit either.0.front after).0; behind = still_behind left either.1 })
+      | inr after ↦ inr (live, vault.generation, record { is_side = (grown (left live) either.0.front after).0; behind = still_behind left either.1 })
     ]
 
-    pub moments : (moment : D → ℕ) (left_at : D → ℕ → Contents → Type 0) (new : D) (payload : List ℕ) → payload ≡ commit_bytes commit
-        → LeavesOnly moment left_at vault.disk new (λ contents. BeforeOrAfter start (holds.contents live) payloads payload (contents live) × OtherMayBe live (files vault.disk) contents)
+    pub moments : (moment : D → ℕ) (left_at : D → ℕ → Contents → Type 0) (new : D)
+        → LeavesOnly moment left_at vault.disk new (λ contents. BeforeOrAfter start (holds.contents live) payloads (payloads_of commit) (contents live) × OtherMayBe live (files vault.disk) contents)
         → LeavesOnly moment left_at vault.disk new (StandsBeforeOrAfter g E X commit)
-    moments moment left_at new payload spelled only =
-        weakened moment left_at vault.disk new _ _ only
-        (λ left either. stands_either left (subst (λ (p : List ℕ). BeforeOrAfter start (holds.contents live) payloads p (left live)) spelled either.0, either.1))
+    moments moment left_at new only = weakened moment left_at vault.disk new _ _ only stands_either
 
     -- and after it was appended
     module _ (new : Vault D) (side : new.journal.side ≡ live) (generation : new.generation ≡ vault.generation) (text : new.text.items ≡ vault.text.items) (bytes : List ℕ)
         (others : OtherStays live (files vault.disk) (files new.disk)) (file : files new.disk live ≡ at_rest (overwritten (files vault.disk live).content vault.journal.end bytes))
-        (at : IsAt new.journal start (files new.disk live).content (payloads ++ commit_bytes commit ∷ []))
-        (moved : new.journal.end ≡ vault.journal.end + length (record_of (commit_bytes commit))) where
+        (at : IsAt new.journal start (files new.disk live).content (payloads ++ payloads_of commit))
+        (moved : new.journal.end ≡ vault.journal.end + length (records_of commit)) where
       abbrev now : Contents
       now each = (files new.disk each).content
 
@@ -128,9 +137,6 @@ module _ (has_journal : HasJournal) {D : Type 0} (files : D → Side → File) (
         | inr differs ↦ let was = others each differs ∙ holds.rests each in was ∙ ap (λ (f : File). at_rest f.content) (sym was)
       ]
 
-      grown : (is_grown : IsSide (now live) g vault.generation E_after X_after) × (end_of is_grown ≡ end_of is_side + length (record_of (commit_bytes commit)))
-      grown = grows (holds.contents live) (now live) g vault.generation E X is_side commit is_commit fit front at.stands
-
       behind : IsBehind (now (other_side live)) vault.generation
       behind = subst (λ (f : File). IsBehind f.content vault.generation) (sym (others (other_side live) (other_differs live) ∙ holds.rests (other_side live))) holds.is_live.behind
 
@@ -140,9 +146,10 @@ module _ (has_journal : HasJournal) {D : Type 0} (files : D → Side → File) (
 
       found : IsFound new.journal.side new.generation
       found =
+          let it = grown (now live) front at.stands in
           subst (λ (number : ℕ). IsFound new.journal.side number) (sym generation)
           (subst (λ (here : Side). IsFound here vault.generation) (sym side)
-          (record { is_side = grown.0; behind = behind }, moved ∙ ap (λ (n : ℕ). n + length (record_of (commit_bytes commit))) holds.ends ∙ sym grown.1))
+          (record { is_side = it.0; behind = behind }, moved ∙ ap (λ (n : ℕ). n + length (records_of commit)) holds.ends ∙ sym it.1))
 
       pub holds_more : Holds files new g E_after X_after
       holds_more = record { contents = now; rests = rests; is_live = found.0; ends = found.1; text = text ∙ holds.text }

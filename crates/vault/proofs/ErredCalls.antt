@@ -1,11 +1,10 @@
 -- Whether a call of the disk returned an error, in one of two calls.
-use Rattle.std.proofs.Common.{◌≡◌, ◌≢◌, ◌≤◌, ◌⊎◌, inl, inr, ℕ, zero, suc, refl, sym, ap, ◌∙◌, arith}
+use Rattle.std.proofs.Common.{◌≡◌, ◌≢◌, ◌≤◌, ◌⊎◌, inl, inr, ℕ, zero, suc, refl, sym, ap, subst, ◌∙◌, arith}
 use Rattle.std.specs.Prelude.{Result, Ok, Err, IsErrOf}
 use Rattle.disk.specs.Time.{Contents, HasCauses, HasErred}
 use Rattle.vault.specs.declared.error.VaultError.{VaultError}
 use Rattle.vault.specs.declared.error.VaultError.TheVariants.{Device, NoMemory}
-use Rattle.vault.specs.Store.{SaysNothing}
-use Rattle.vault.specs.Opened.{HeadsFault, IsOfAhead, TellsWhy, StandsForNothing}
+use Rattle.vault.specs.Opened.{TellsWhy}
 use Rattle.vault.proofs.HeadsFaults.{same_error}
 
 -- two numbers that do not differ are equal
@@ -20,6 +19,17 @@ module _ {D : Type 0} (failures refusals : D → ℕ) (old mid new : D) where
   pub erred_behind : failures old ≤ failures mid → refusals mid ≡ refusals old → HasErred failures refusals mid new → HasErred failures refusals old new
   erred_behind later same (inl failed) = inl (omega (arith, later, failed))
   erred_behind later same (inr refused) = inr (λ is. refused (is ∙ sym same))
+
+  -- and what the second says of files that the first left as they were, the two say
+  pub tells_behind : failures old ≤ failures mid → refusals mid ≡ refusals old → {T : Type 0} (before after : Contents) → after ≡ before → (result : Result T VaultError)
+      → TellsWhy after (HasErred failures refusals mid new) result → TellsWhy before (HasErred failures refusals old new) result
+  tells_behind later same {T} before after is result tells =
+      let it = subst (λ (contents : Contents). TellsWhy contents (HasErred failures refusals mid new) result) is tells in
+      record {
+        nothing = it.nothing;
+        heads = λ fault heads. elim (it.heads fault heads) [ inl told ↦ inl told | inr erred ↦ inr (erred_behind later same erred) ];
+        cause = it.cause;
+      }
 
 -- `Ok` is no error
 pub ok_is_no_error : {T : Type 0} (value : T) (error : VaultError) → IsErrOf (Ok value) error → ⊥
@@ -48,20 +58,18 @@ causes_of_ok failures refusals old new found value causes = record {
 pub other_error : {S T : Type 0} (error fault : VaultError) → IsErrOf {T = S} (Err error) fault → IsErrOf {T = T} (Err error) fault
 other_error {S} {T} error fault is = ap (λ (it : VaultError). Err it) (same_error {T = S} error fault is)
 
-abbrev pub ToldHeads : {T : Type 0} → Contents → Type 0 → Result T VaultError → Type 0
-ToldHeads contents erred result = (fault : VaultError) → HeadsFault contents fault → IsErrOf result fault ⊎ erred
+only_error : {S T : Type 0} (erred : Type 0) (found : S) (value : T) (fault : VaultError) → IsErrOf {T = S} (Ok found) fault ⊎ erred → IsErrOf {T = T} (Ok value) fault ⊎ erred
+only_error erred found value fault (inl is) = absurd (ok_is_no_error found fault is)
+only_error erred found value fault (inr it) = inr it
 
-pub tells_ok : {S T : Type 0} (contents : Contents) (erred : Type 0) (found : S) (value : T) → ToldHeads contents erred (Ok found) → TellsWhy contents erred (Ok value)
-tells_ok {S} {T} contents erred found value told = record { nothing = tt; heads = λ fault it. only fault (told fault it); cause = tt }
-  where
-    only : (fault : VaultError) → IsErrOf {T = S} (Ok found) fault ⊎ erred → IsErrOf {T = T} (Ok value) fault ⊎ erred
-    only fault (inl is) = absurd (ok_is_no_error found fault is)
-    only fault (inr it) = inr it
+carried : {S T : Type 0} (erred : Type 0) (error fault : VaultError) → IsErrOf {T = S} (Err error) fault ⊎ erred → IsErrOf {T = T} (Err error) fault ⊎ erred
+carried {S} {T} erred error fault (inl is) = inl (other_error {S = S} {T = T} error fault is)
+carried erred error fault (inr it) = inr it
 
-pub tells_err : {S T : Type 0} (contents : Contents) (erred : Type 0) (error : VaultError) → (SaysNothing error → StandsForNothing contents)
-    → (SaysNothing error → HeadsFault contents error ⊎ IsOfAhead contents error) → ToldHeads {T = S} contents erred (Err error) → TellsWhy {T = T} contents erred (Err error)
-tells_err {S} {T} contents erred error nothing cause told = record { nothing = nothing; heads = λ fault it. carried fault (told fault it); cause = cause }
-  where
-    carried : (fault : VaultError) → IsErrOf {T = S} (Err error) fault ⊎ erred → IsErrOf {T = T} (Err error) fault ⊎ erred
-    carried fault (inl is) = inl (other_error {S = S} {T = T} error fault is)
-    carried fault (inr it) = inr it
+-- what a result says, another one says that returns another value, or the same error
+pub tells_ok : {S T : Type 0} (contents : Contents) (erred : Type 0) (found : S) (value : T) → TellsWhy contents erred (Ok found) → TellsWhy contents erred (Ok value)
+tells_ok contents erred found value told = record { nothing = tt; heads = λ fault it. only_error erred found value fault (told.heads fault it); cause = tt }
+
+pub tells_err : {S T : Type 0} (contents : Contents) (erred : Type 0) (error : VaultError) → TellsWhy {T = S} contents erred (Err error) → TellsWhy {T = T} contents erred (Err error)
+tells_err {S} {T} contents erred error told =
+    record { nothing = told.nothing; heads = λ fault it. carried {S = S} {T = T} erred error fault (told.heads fault it); cause = told.cause }

@@ -56,14 +56,14 @@ module _ {D : Type 0} (files : D → Side → File) (moment : D → ℕ) (left_a
     gates_before = begun_there vault.disk (held_rests files vault g E X holds) gates
 
     -- while an event is appended
-    pub gates_appended : (journal : HasJournal) (new : D) (payload : List ℕ)
-        → LeavesOnly moment left_at vault.disk new (λ c. BeforeOrAfter (start journal files vault g E X holds) (holds.contents vault.journal.side) (payloads journal files vault g E X holds) payload (c vault.journal.side)
+    pub gates_appended : (journal : HasJournal) (new : D) (added : List (List ℕ))
+        → LeavesOnly moment left_at vault.disk new (λ c. BeforeOrAfter (start journal files vault g E X holds) (holds.contents vault.journal.side) (payloads journal files vault g E X holds) added (c vault.journal.side)
         × OtherMayBe vault.journal.side (files vault.disk) c)
         → LeavesOnly moment left_at vault.disk new HasGates
-    gates_appended journal new payload =
+    gates_appended journal new added =
         let live = vault.journal.side in
         written_there vault.disk (held_rests files vault g E X holds) gates new live
-        (BeforeOrAfter (start journal files vault g E X holds) (holds.contents live) (payloads journal files vault g E X holds) payload)
+        (BeforeOrAfter (start journal files vault g E X holds) (holds.contents live) (payloads journal files vault g E X holds) added)
         (λ bytes either. front_there (length (behind_gate FORMAT vault.generation (canonical g) (image_bytes holds.is_live.is_side.image) [])) (holds.contents live) bytes either.front (λ none. gates live (ap (λ (f : File). f.content) (holds.rests live) ∙ none)))
 
     -- while the other side is written

@@ -1,7 +1,9 @@
 -- What a crash leaves at each moment while a side is written anew.
-use Rattle.std.proofs.Common.{◌≡◌, ◌≢◌, inl, inr, ℕ, List, [], ◌∷◌, subst}
+use Rattle.std.proofs.Common.{◌≡◌, ◌≢◌, ◌∙◌, inl, inr, ℕ, List, [], ◌∷◌, subst}
 use Rattle.std.specs.Prelude.{◌↔◌}
 use Rattle.disk.specs.declared.side.Side.{Side}
+use Rattle.disk.specs.declared.storage.Disk.{Ghosts}
+use Rattle.disk.specs.Storage.{KeepsFiles}
 use Rattle.disk.specs.File.{File, MayLeave, WriteLeaves}
 use Rattle.disk.specs.Time.{Contents, MayLeaveNow, OtherStays, OtherMayBe, Elapses, LeavesOnly}
 use Rattle.disk.specs.Moments.{begun, goes_on, weakened, joined, other_before}
@@ -16,13 +18,13 @@ module _ {D : Type 0} (files : D → Side → File) (moment : D → ℕ) (left_a
   now_same old new same c left each = subst (λ (f : File). MayLeave f.durable (c each)) (same each) (left each)
 
   -- a call that only reads
-  pub look_moments : (old new : D) → ((each : Side) → files new each ≡ files old each) → Elapses (moment old) (moment new) (left_at old) (left_at new) → LeavesOnly moment left_at old new (MayLeaveNow (files old))
+  look_moments : (old new : D) → ((each : Side) → files new each ≡ files old each) → Elapses (moment old) (moment new) (left_at old) (left_at new) → LeavesOnly moment left_at old new (MayLeaveNow (files old))
   look_moments old new same time =
       goes_on moment left_at old old new (MayLeaveNow (files old)) (begun moment left_at old (MayLeaveNow (files old)) (λ c left. (at_now old c).0 left)) time
       (λ c left. now_same old new same c ((at_now new c).0 left))
 
   -- two such calls
-  pub looks_moments : (old mid new : D) → ((each : Side) → files mid each ≡ files old each) → ((each : Side) → files new each ≡ files mid each)
+  looks_moments : (old mid new : D) → ((each : Side) → files mid each ≡ files old each) → ((each : Side) → files new each ≡ files mid each)
       → Elapses (moment old) (moment mid) (left_at old) (left_at mid) → Elapses (moment mid) (moment new) (left_at mid) (left_at new) → LeavesOnly moment left_at old new (MayLeaveNow (files old))
   looks_moments old mid new first second time later =
       joined moment left_at old mid new _ _ _ (look_moments old mid first time) (look_moments mid new second later) (λ c left. left) (now_same old mid first)
@@ -67,3 +69,17 @@ module _ {D : Type 0} (files : D → Side → File) (moment : D → ℕ) (left_a
               opening_leaves gate behind (files old side).content (c side) left.0,
               other_before side (files old) (files closed) stays c (other_before side (files closed) (files wrote) later c left.1),
             ))
+
+-- calls that only read, on a disk
+module _ {D : Type 0} (storage : Ghosts D) (at_now : (disk : D) (c : Contents) → storage.left_at disk (storage.moment disk) c ↔ MayLeaveNow (storage.files disk) c) where
+  pub look_kept : (old new : D) → ((each : Side) → storage.files new each ≡ storage.files old each)
+      → Elapses (storage.moment old) (storage.moment new) (storage.left_at old) (storage.left_at new) → KeepsFiles storage old new
+  look_kept old new same time = record { same = same; any_moment = look_moments storage.files storage.moment storage.left_at at_now old new same time }
+
+  pub looks_kept : (old mid new : D) → ((each : Side) → storage.files mid each ≡ storage.files old each) → ((each : Side) → storage.files new each ≡ storage.files mid each)
+      → Elapses (storage.moment old) (storage.moment mid) (storage.left_at old) (storage.left_at mid)
+      → Elapses (storage.moment mid) (storage.moment new) (storage.left_at mid) (storage.left_at new) → KeepsFiles storage old new
+  looks_kept old mid new first second time later = record {
+    same = λ each. second each ∙ first each;
+    any_moment = looks_moments storage.files storage.moment storage.left_at at_now old mid new first second time later;
+  }

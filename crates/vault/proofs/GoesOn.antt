@@ -5,6 +5,7 @@ use Rattle.std.specs.declared.alloc.Global.{Global}
 use Rattle.std.proofs.lemmas.List.{append_assoc, append-nil}
 use Rattle.disk.specs.declared.side.Side.{Side}
 use Rattle.disk.specs.File.{File}
+use Rattle.disk.specs.declared.storage.Disk.{Ghosts}
 use Rattle.disk.specs.Moments.{weakened}
 use Rattle.disk.specs.Time.{Contents, MayLeaveNow, LeavesOnly}
 use Rattle.terms.specs.declared.event.Event.{Event}
@@ -100,15 +101,15 @@ none_made g E X commits pending contents stands = record {
   stands = subst (λ (all : List Commit). Stands contents g (environment_behind E all) (facts_behind X all)) (sym (append-nil commits)) stands;
 }
 
-module _ {D : Type 0} (files : D → Side → File) (moment : D → ℕ) (left_at : D → ℕ → Contents → Type 0) where
-  pub turn_leaves : TurnLeaves files moment left_at
+module _ {D : Type 0} (storage : Ghosts D) where
+  pub turn_leaves : TurnLeaves storage
   turn_leaves old new g E X commits only =
-      weakened moment left_at old.disk new.disk (λ contents. Stands contents g (environment_behind E commits) (facts_behind X commits)) (StandsForBeginning g E X commits [])
+      weakened storage.moment storage.left_at old.disk new.disk (λ contents. Stands contents g (environment_behind E commits) (facts_behind X commits)) (StandsForBeginning g E X commits [])
       only (none_made g E X commits [])
 
-  pub append_leaves : AmongBoth → FactsGoOn → EnvironmentGoesOn → AppendLeaves files moment left_at
+  pub append_leaves : AmongBoth → FactsGoOn → EnvironmentGoesOn → AppendLeaves storage
   append_leaves both facts_on environment_on old new g E X commits commit only =
-      weakened moment left_at old.disk new.disk (StandsBeforeOrAfter g (environment_behind E commits) (facts_behind X commits) commit) (StandsForBeginning g E X commits (commit ∷ [])) only
+      weakened storage.moment storage.left_at old.disk new.disk (StandsBeforeOrAfter g (environment_behind E commits) (facts_behind X commits) commit) (StandsForBeginning g E X commits (commit ∷ [])) only
       (λ contents either. elim either [
         | inl stands ↦ none_made g E X commits (commit ∷ []) contents stands
         | inr stands ↦ record {
@@ -119,29 +120,29 @@ module _ {D : Type 0} (files : D → Side → File) (moment : D → ℕ) (left_a
         }
       ])
 
-  module _ (at_now : (disk : D) (contents : Contents) → left_at disk (moment disk) contents ↔ MayLeaveNow (files disk) contents) where
-    pub held_leaves : HeldLeaves files moment left_at
-    held_leaves vault g E X holds = held_moments files moment left_at at_now vault g E X holds
+  module _ (at_now : (disk : D) (contents : Contents) → storage.left_at disk (storage.moment disk) contents ↔ MayLeaveNow (storage.files disk) contents) where
+    pub held_leaves : HeldLeaves storage
+    held_leaves vault g E X holds = held_moments storage.files storage.moment storage.left_at at_now vault g E X holds
 
-    pub rest_leaves : RestLeaves files moment left_at
+    pub rest_leaves : RestLeaves storage
     rest_leaves vault g E X commits it = turn_leaves vault vault g E X commits (held_leaves vault g (environment_behind E commits) (facts_behind X commits) it)
 
-    pub gates_rest : GatesRest files moment left_at
-    gates_rest vault g E X holds gates = gates_before files moment left_at vault g E X holds gates at_now
+    pub gates_rest : GatesRest storage
+    gates_rest vault g E X holds gates = gates_before storage.files storage.moment storage.left_at vault g E X holds gates at_now
 
-    pub gates_stay : ((disk : D) → MayLeaveNow (files disk) (contents_of (files disk))) → GatesStay files moment left_at
+    pub gates_stay : ((disk : D) → MayLeaveNow (storage.files disk) (contents_of (storage.files disk))) → GatesStay storage
     gates_stay reads_left before after only =
-        let now = contents_of (files after) in
-        only.each (moment after) now only.later (omega arith) ((at_now after now).1 (reads_left after))
+        let now = contents_of (storage.files after) in
+        only.each (storage.moment after) now only.later (omega arith) ((at_now after now).1 (reads_left after))
 
   -- ---- what a call makes of a store
 
-  pub begun : BegunStore files moment left_at
+  pub begun : BegunStore storage
   begun vault g E X holds =
-      subst (λ (F : Facts). Holds files vault g F (with_facts X [])) (sym (with_none E)) (subst (λ (Y : Facts). Holds files vault g E Y) (sym (with_none X)) holds)
+      subst (λ (F : Facts). Holds storage.files vault g F (with_facts X [])) (sym (with_none E)) (subst (λ (Y : Facts). Holds storage.files vault g E Y) (sym (with_none X)) holds)
 
-  pub appended : AmongBoth → FactsGoOn → EnvironmentGoesOn → AppendedStore files moment left_at
-  appended both facts_on environment_on vault g E X commits commit = of_more both facts_on environment_on E X commits commit (Holds files vault g)
+  pub appended : AmongBoth → FactsGoOn → EnvironmentGoesOn → AppendedStore storage
+  appended both facts_on environment_on vault g E X commits commit = of_more both facts_on environment_on E X commits commit (Holds storage.files vault g)
 
   -- a live side by its name and its generation
   named_so : (contents : Contents) (s t : Side) (m n : ℕ) (g : Graph) (E X : Facts) → t ≡ s → n ≡ m → (it : IsLive contents s m g E X)
@@ -150,49 +151,49 @@ module _ {D : Type 0} (files : D → Side → File) (moment : D → ℕ) (left_a
       subst (λ (named : Side × ℕ). (too : IsLive contents named.0 named.1 g E X) × (end_of too.is_side ≡ end_of it.is_side))
       (λ i. (sym sides i, sym generations i)) (it, refl)
 
-  pub refused : RefusedStore files moment left_at
+  pub refused : RefusedStore storage
   refused old new g E X it same =
       let live = named_so it.contents old.journal.side new.journal.side old.generation new.generation g E X same.side same.generation it.is_live in
       record {
         contents = it.contents;
-        rests = λ side. ap (λ (disk : D). files disk side) same.disk ∙ it.rests side;
+        rests = λ side. ap (λ (disk : D). storage.files disk side) same.disk ∙ it.rests side;
         is_live = live.0;
         ends = same.end ∙ it.ends ∙ sym live.1;
         text = ap (λ (text : Vec ℕ Global). text.items) same.text ∙ it.text;
       }
 
-  pub ready : HasJournal → StoreIsReady files moment left_at
-  ready journal vault g E X holds = held_is_ready files journal vault g E X holds
+  pub ready : HasJournal → StoreIsReady storage
+  ready journal vault g E X holds = held_is_ready storage.files journal vault g E X holds
 
   -- ---- openings
 
-  -- what a crash at a moment of a call left
-  struck : (old new : D) (P : Contents → Type 0) (crashed : D) → LeavesOnly moment left_at old new P
-      → IsLeft files moment left_at old new crashed → (contents : Contents) → MayLeaveNow (files crashed) contents → P contents
+  -- what a crash at a storage.moment of a call left
+  struck : (old new : D) (P : Contents → Type 0) (crashed : D) → LeavesOnly storage.moment storage.left_at old new P
+      → IsLeft storage old new crashed → (contents : Contents) → MayLeaveNow (storage.files crashed) contents → P contents
   struck old new P crashed only it contents left = only.each it.struck contents it.begun it.ended (it.crash contents left)
 
   -- openings that gave no store add nothing to what a crash may leave
-  openings_leave : (first last : D) (openings : List (D × D)) → Openings files moment left_at first openings last
-      → (contents : Contents) → MayLeaveNow (files last) contents → MayLeaveNow (files first) contents
-  openings_leave first last [] is contents left = subst (λ (disk : D). MayLeaveNow (files disk) contents) is left
+  openings_leave : (first last : D) (openings : List (D × D)) → Openings storage first openings last
+      → (contents : Contents) → MayLeaveNow (storage.files last) contents → MayLeaveNow (storage.files first) contents
+  openings_leave first last [] is contents left = subst (λ (disk : D). MayLeaveNow (storage.files disk) contents) is left
   openings_leave first last ((after, next) ∷ others) ended contents left =
       let now = openings_leave next last others ended.1 contents left in
       elim ended.0 [
-        | inl cut ↦ struck first after (MayLeaveNow (files first)) next cut.0 cut.1 contents now
-        | inr refused ↦ refused.1 contents (subst (λ (disk : D). MayLeaveNow (files disk) contents) refused.0 now)
+        | inl cut ↦ struck first after (MayLeaveNow (storage.files first)) next cut.0 cut.1 contents now
+        | inr refused ↦ refused.1 contents (subst (λ (disk : D). MayLeaveNow (storage.files disk) contents) refused.0 now)
       ]
 
-  -- what holds of the files at each moment of a call holds of them after a crash and openings
-  behind_openings : ((disk : D) → MayLeaveNow (files disk) (contents_of (files disk))) → (P : Contents → Type 0) (before after crashed last : D) (openings : List (D × D))
-      → LeavesOnly moment left_at before after P → IsLeft files moment left_at before after crashed → Openings files moment left_at crashed openings last → P (contents_of (files last))
+  -- what holds of the storage.files at each storage.moment of a call holds of them after a crash and openings
+  behind_openings : ((disk : D) → MayLeaveNow (storage.files disk) (contents_of (storage.files disk))) → (P : Contents → Type 0) (before after crashed last : D) (openings : List (D × D))
+      → LeavesOnly storage.moment storage.left_at before after P → IsLeft storage before after crashed → Openings storage crashed openings last → P (contents_of (storage.files last))
   behind_openings reads_left P before after crashed last openings only left ended =
-      struck before after P crashed only left (contents_of (files last)) (openings_leave crashed last openings ended (contents_of (files last)) (reads_left last))
+      struck before after P crashed only left (contents_of (storage.files last)) (openings_leave crashed last openings ended (contents_of (storage.files last)) (reads_left last))
 
-  pub gates_go_on : ((disk : D) → MayLeaveNow (files disk) (contents_of (files disk))) → GatesGoOn files moment left_at
+  pub gates_go_on : ((disk : D) → MayLeaveNow (storage.files disk) (contents_of (storage.files disk))) → GatesGoOn storage
   gates_go_on reads_left = behind_openings reads_left HasGates
 
   -- a vault that holds some sets of facts holds equal sets too
-  holds_as_set : SideAsSet → (vault : Vault D) (g : Graph) (E F X Y : Facts) → SameSet F E → SameSet Y X → Holds files vault g F Y → Holds files vault g E X
+  holds_as_set : SideAsSet → (vault : Vault D) (g : Graph) (E F X Y : Facts) → SameSet F E → SameSet Y X → Holds storage.files vault g F Y → Holds storage.files vault g E X
   holds_as_set as_set vault g E F X Y given same it =
       let too = as_set (it.contents vault.journal.side) g vault.generation F E Y X given same it.is_live.is_side in
       record {
@@ -204,14 +205,14 @@ module _ {D : Type 0} (files : D → Side → File) (moment : D → ℕ) (left_a
       }
 
   module _ (as_set : SideAsSet) (one_store : OneStore) where
-    pub finds : OpeningFinds files moment left_at
+    pub finds : OpeningFinds storage
     finds disk g E X stands vault h F Y it same =
-        let read : it.contents ≡ contents_of (files disk) = λ i side. (ap (λ (f : File). f.content) (sym (it.rests side)) ∙ same side) i in
+        let read : it.contents ≡ contents_of (storage.files disk) = λ i side. (ap (λ (f : File). f.content) (sym (it.rests side)) ∙ same side) i in
         let found = subst (λ (contents : Contents). Stands contents h F Y) read (vault.journal.side, vault.generation, it.is_live) in
-        let one = one_store (contents_of (files disk)) h g F E Y X found stands in
-        (subst (λ (graph : Graph). Holds files vault graph E X) one.0 (holds_as_set as_set vault h E F X Y one.1 one.2 it), one.0, one.1, one.2)
+        let one = one_store (contents_of (storage.files disk)) h g F E Y X found stands in
+        (subst (λ (graph : Graph). Holds storage.files vault graph E X) one.0 (holds_as_set as_set vault h E F X Y one.1 one.2 it), one.0, one.1, one.2)
 
-    pub goes_on : ((disk : D) → MayLeaveNow (files disk) (contents_of (files disk))) → StoreGoesOn files moment left_at
+    pub goes_on : ((disk : D) → MayLeaveNow (storage.files disk) (contents_of (storage.files disk))) → StoreGoesOn storage
     goes_on reads_left g E X acknowledged pending before after crashed last openings only left ended =
         let found = behind_openings reads_left (StandsForBeginning g E X acknowledged pending) before after crashed last openings only left ended in
         let commits = acknowledged ++ found.made in

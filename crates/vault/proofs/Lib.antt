@@ -6,6 +6,7 @@ mod FirstBytes
 mod GatesBytes
 mod GatesMoments
 mod GoesOn
+mod Grouped
 mod HeadsFaults
 mod Live
 mod OpenedCalls
@@ -14,6 +15,8 @@ mod OpenedHeads
 mod OpenedSides
 mod PiecesMoments
 mod Ready
+mod RefusedCalls
+mod Short
 mod TurnedLengths
 mod TurnedSides
 mod TurnedStores

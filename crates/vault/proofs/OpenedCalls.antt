@@ -3,6 +3,7 @@ use Rattle.std.proofs.Common.{◌≡◌, ℕ, inl, inr, ap, subst, ◌∙◌}
 use Rattle.std.specs.Prelude.{◌↔◌, Result, Ok, Err, OnOk}
 use Rattle.disk.specs.declared.side.Side.{Side}
 use Rattle.disk.specs.declared.side.Side.TheVariants.{A, B}
+use Rattle.disk.specs.declared.storage.Disk.{Ghosts}
 use Rattle.disk.specs.declared.error.DiskError.{DiskError}
 use Rattle.disk.specs.Side.{which}
 use Rattle.disk.specs.File.{File, MayLeave, Syncs, at_rest}
@@ -38,36 +39,36 @@ pub both_synced : (T : Type 0) (result : Result T DiskError) (old mid new : Side
 both_synced T (Ok _) old mid new a other_a b other_b = both_rest old mid new a other_a b other_b
 both_synced T (Err _) old mid new a other_a b other_b = tt
 
-module _ {D : Type 0} (files : D → Side → File) (moment : D → ℕ) (left_at : D → ℕ → Contents → Type 0) where
+module _ {D : Type 0} (storage : Ghosts D) where
   -- calls after others
-  pub then_reads : (old mid new : D) → OnlyReads files moment left_at old mid → OnlyReads files moment left_at mid new → OnlyReads files moment left_at old new
+  pub then_reads : (old mid new : D) → OnlyReads storage old mid → OnlyReads storage mid new → OnlyReads storage old new
   then_reads old mid new first last = record {
     reads = λ side. last.reads side ∙ first.reads side;
-    any_moment = joined moment left_at old mid new _ _ _ first.any_moment last.any_moment (λ c left. left) first.left;
+    any_moment = joined storage.moment storage.left_at old mid new _ _ _ first.any_moment last.any_moment (λ c left. left) first.left;
     left = λ c left. first.left c (last.left c left);
   }
 
-  module _ (at_now : (disk : D) (c : Contents) → left_at disk (moment disk) c ↔ MayLeaveNow (files disk) c) where
+  module _ (at_now : (disk : D) (c : Contents) → storage.left_at disk (storage.moment disk) c ↔ MayLeaveNow (storage.files disk) c) where
     -- one call after which a crash leaves nothing more
-    one_call : (old new : D) → ((side : Side) → (files new side).content ≡ (files old side).content) → Elapses (moment old) (moment new) (left_at old) (left_at new)
-        → ((c : Contents) → MayLeaveNow (files new) c → MayLeaveNow (files old) c) → OnlyReads files moment left_at old new
+    one_call : (old new : D) → ((side : Side) → (storage.files new side).content ≡ (storage.files old side).content) → Elapses (storage.moment old) (storage.moment new) (storage.left_at old) (storage.left_at new)
+        → ((c : Contents) → MayLeaveNow (storage.files new) c → MayLeaveNow (storage.files old) c) → OnlyReads storage old new
     one_call old new reads time left = record {
       reads = reads;
       any_moment =
-          goes_on moment left_at old old new (MayLeaveNow (files old)) (begun moment left_at old (MayLeaveNow (files old)) (λ c now. (at_now old c).0 now)) time
+          goes_on storage.moment storage.left_at old old new (MayLeaveNow (storage.files old)) (begun storage.moment storage.left_at old (MayLeaveNow (storage.files old)) (λ c now. (at_now old c).0 now)) time
           (λ c now. left c ((at_now new c).0 now));
       left = left;
     }
 
     -- a call that changes no file
-    pub looked : (old new : D) → ((each : Side) → files new each ≡ files old each) → Elapses (moment old) (moment new) (left_at old) (left_at new) → OnlyReads files moment left_at old new
+    pub looked : (old new : D) → ((each : Side) → storage.files new each ≡ storage.files old each) → Elapses (storage.moment old) (storage.moment new) (storage.left_at old) (storage.left_at new) → OnlyReads storage old new
     looked old new same time =
         one_call old new (λ side. ap (λ (f : File). f.content) (same side)) time
         (λ c left each. subst (λ (f : File). MayLeave f.durable (c each)) (same each) (left each))
 
     -- a sync, whatever it returned
-    pub synced : (T : Type 0) (side : Side) (result : Result T DiskError) (old new : D) → MayLeave (files old side).durable (files old side).content → Syncs result (files old side) (files new side)
-        → OtherStays side (files old) (files new) → Elapses (moment old) (moment new) (left_at old) (left_at new) → OnlyReads files moment left_at old new
+    pub synced : (T : Type 0) (side : Side) (result : Result T DiskError) (old new : D) → MayLeave (storage.files old side).durable (storage.files old side).content → Syncs result (storage.files old side) (storage.files new side)
+        → OtherStays side (storage.files old) (storage.files new) → Elapses (storage.moment old) (storage.moment new) (storage.left_at old) (storage.left_at new) → OnlyReads storage old new
     synced T side result old new reads syncs stays time =
-        one_call old new (reads_stay side (files old) (files new) (sync_reads T result (files old side) (files new side) syncs) stays) time
-        (now_after_sync T side result (files old) (files new) syncs stays reads)
+        one_call old new (reads_stay side (storage.files old) (storage.files new) (sync_reads T result (storage.files old side) (storage.files new side) syncs) stays) time
+        (now_after_sync T side result (storage.files old) (storage.files new) syncs stays reads)

@@ -6,11 +6,10 @@ use Rattle.disk.specs.Side.{which}
 use Rattle.disk.specs.File.{File, at_rest, overwritten}
 use Rattle.disk.specs.Time.{OtherStays}
 use Rattle.terms.specs.Sets.{Facts}
-use Rattle.journal.specs.Records.{record_of}
 use Rattle.graph.specs.Graph.{Graph}
 use Rattle.sides.specs.SideLaws.{HasJournal}
 use Rattle.vault.specs.declared.vault.Vault.{Vault}
-use Rattle.vault.specs.Store.{Holds, IsReady}
+use Rattle.vault.specs.Store.{Holds, IsReady, IsSame}
 use Rattle.vault.specs.Turned.{Rests}
 use Rattle.vault.proofs.Appended.{end_within}
 use Rattle.vault.proofs.TurnedStores.{held_rests}
@@ -40,17 +39,27 @@ module _ {D : Type 0} (files : D → Side → File) where
   pub held_is_ready : HasJournal → (vault : Vault D) (g : Graph) (E X : Facts) → Holds files vault g E X → IsReady files vault
   held_is_ready journal vault g E X holds = record { rests = held_rests files vault g E X holds; within = end_within journal files vault g E X holds }
 
-  -- one to whose journal a record was added
-  pub appended_is_ready : (old new : Vault D) (payload ahead : List ℕ) → IsReady files old → new.journal.side ≡ old.journal.side → new.journal.end ≡ old.journal.end + length (record_of payload)
-      → files new.disk old.journal.side ≡ at_rest (overwritten (files old.disk old.journal.side).content old.journal.end (record_of payload ++ 0 ∷ ahead))
+  -- one of which nothing changed that the promises speak of
+  pub same_is_ready : (old new : Vault D) → IsSame old new → IsReady files old → IsReady files new
+  same_is_ready old new same ready = record {
+    rests = λ side. subst (λ (disk : D). Rests (files disk side)) (sym same.disk) (ready.rests side);
+    within =
+        subst (λ (disk : D). new.journal.end < length (files disk new.journal.side).content) (sym same.disk)
+        (subst (λ (side : Side). new.journal.end < length (files old.disk side).content) (sym same.side)
+        (subst (λ (end : ℕ). end < length (files old.disk old.journal.side).content) (sym same.end) ready.within));
+  }
+
+  -- one to whose journal these bytes were added
+  pub appended_is_ready : (old new : Vault D) (bytes ahead : List ℕ) → IsReady files old → new.journal.side ≡ old.journal.side → new.journal.end ≡ old.journal.end + length bytes
+      → files new.disk old.journal.side ≡ at_rest (overwritten (files old.disk old.journal.side).content old.journal.end (bytes ++ 0 ∷ ahead))
       → OtherStays old.journal.side (files old.disk) (files new.disk) → IsReady files new
-  appended_is_ready old new payload ahead ready side moved written others = record {
+  appended_is_ready old new bytes ahead ready side moved written others = record {
     rests = all_rest old.journal.side (files old.disk) (files new.disk) _ ready.rests written others;
     within =
         let content = (files old.disk old.journal.side).content in
-        let there = within_written content (record_of payload) ahead old.journal.end (omega (arith, ready.within)) in
+        let there = within_written content bytes ahead old.journal.end (omega (arith, ready.within)) in
         subst (λ (s : Side). new.journal.end < length (files new.disk s).content) (sym side)
-        (subst (λ (f : File). new.journal.end < length f.content) (sym written) (subst (λ (n : ℕ). n < length (overwritten content old.journal.end (record_of payload ++ 0 ∷ ahead))) (sym moved) there));
+        (subst (λ (f : File). new.journal.end < length f.content) (sym written) (subst (λ (n : ℕ). n < length (overwritten content old.journal.end (bytes ++ 0 ∷ ahead))) (sym moved) there));
   }
 
   -- one whose live side was written anew, with a journal that ends at its last byte

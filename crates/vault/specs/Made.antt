@@ -18,4 +18,4 @@ pub record AreNewFiles (files : Side → File) (text : List ℕ) : Type 0 where
 pub record IsMade (text : List ℕ) (made : Made) : Type 0 where
   pub side : made.journal.side ≡ A
   pub end : made.journal.end ≡ length (1 ∷ behind_gate FORMAT 1 text (image_bytes empty) [])
-  pub text : made.kept.items ≡ text
+  pub text_is : made.kept.items ≡ text

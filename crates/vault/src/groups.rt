@@ -18,12 +18,11 @@ pub(crate) fn spell_records(out: &mut Vec<u8>, commit: &[Event]) -> Result<(), A
     ensures spelled { OnOk result (out.new.items ≡ out.old.items ++ records_of commit.now) }
     ensures in_range { OnOk result (AllByRecursion (IsCommit MAX_COMPONENTS) (groups_of commit.now)) }
 {
-    let (first, others) = commit.split_at(commit.len() % MOST_EVENTS);
-    if !first.is_empty() {
-        spell_record(out, first)?;
-    }
-    for group in others.chunks(MOST_EVENTS) {
-        spell_record(out, group)?;
+    let mut start = 0;
+    while start < commit.len() {
+        let count = (commit.len() - start - 1) % MOST_EVENTS + 1;
+        spell_record(out, &commit[start..start + count])?;
+        start += count;
     }
     Ok(())
 }

@@ -1,4 +1,4 @@
-use Rattle.std.proofs.Common.{◌≡◌, refl, sym}
+use Rattle.std.proofs.Common.{◌≡◌, refl, sym, rules}
 use Rattle.graph.specs.Graph.{Graph}
 use Rattle.graph.specs.Canonical.{canonical}
 use Rattle.graph.specs.Reads.{Reads}
@@ -13,19 +13,23 @@ pub returns-in-Ok-clause-created : goal.returns-in-Ok-clause-created
 returns-in-Ok-clause-created g c honest =
     let it = c.requires in
     let files = g.D.Disk.files in
+    let new = c.in-Ok.ensures.sides honest in
+    let made = c.in-Ok.ensures.made in
     let holds : (gr : Graph) → Reads c.args.text.now gr → c.args.text.now ≡ canonical gr → Holds files _ gr nothing nothing =
-    λ gr reads text. holds_nothing c.sides_go_on.ensures.begins gr c.args.text.now text reads files _ (c.in-Ok.ensures.a honest) (c.in-Ok.ensures.b honest) refl c.in-Ok.ensures.side c.in-Ok.ensures.end c.in-Ok.ensures.text in
+    λ gr reads text. holds_nothing c.sides_go_on.ensures.begins gr c.args.text.now text reads files _ new.a new.b refl made.side made.end made.text_is in
     record {
       holds = holds;
-      a = c.in-Ok.ensures.a honest;
-      b = c.in-Ok.ensures.b honest;
+      a = new.a;
+      b = new.b;
       ready = held_is_ready files c.sides_go_on.ensures.journal _ it.0 _ _ (holds it.0 it.1.0 (sym it.1.1));
     }
 
+pub returns-in-Ok-clause-non_empty : goal.returns-in-Ok-clause-non_empty
+returns-in-Ok-clause-non_empty g c honest =
+    let it = c.in-Ok.ensures.non_empty honest in
+    record { were_empty = it.were_empty; exists = search rules; kept = it.kept; moments = it.moments }
+
 pub returns-in-Err-clause-non_empty : goal.returns-in-Err-clause-non_empty
-returns-in-Err-clause-non_empty g c honest = record {
-  were_empty = tt;
-  exists = λ is. c.in-Err.ensures.exists honest (other_error {T = Made} c.in-Err.error _ is);
-  kept = c.in-Err.ensures.kept honest;
-  moments = c.in-Err.ensures.kept_moments honest;
-}
+returns-in-Err-clause-non_empty g c honest =
+    let it = c.in-Err.ensures.non_empty honest in
+    record { were_empty = tt; exists = λ is. it.exists (other_error {T = Made} c.in-Err.error _ is); kept = it.kept; moments = it.moments }

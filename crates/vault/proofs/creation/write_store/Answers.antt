@@ -1,4 +1,4 @@
-use Rattle.std.proofs.Common.{◌∙◌, ap}
+use Rattle.std.proofs.Common.{◌∙◌, ap, rules}
 use Rattle.disk.specs.declared.side.Side.TheVariants.{A, B}
 use Rattle.disk.specs.File.{File}
 use Rattle.disk.specs.Moments.{begun}
@@ -6,18 +6,33 @@ use Rattle.disk.specs.Time.{MayLeaveNow}
 use Rattle.vault.proofs.BegunMoments.{looked, both}
 use Rattle.vault.proofs.creation.write_store.Goals as goal
 
-pub returns-then-branch-clause-exists : goal.returns-then-branch-clause-exists
-returns-then-branch-clause-exists g c honest same = c.in_ok-is_there.ensures.there honest c.if-branch.true
-
-pub returns-in_err-kept-clause-kept_moments : goal.returns-in_err-kept-clause-kept_moments
-returns-in_err-kept-clause-kept_moments g c honest some full =
+pub returns-in_err-kept-clause-non_empty : goal.returns-in_err-kept-clause-non_empty
+returns-in_err-kept-clause-non_empty g c honest =
     let disk = c.args.disk.now in
-    begun g.D.Disk.moment g.D.Disk.left_at disk (MayLeaveNow (g.D.Disk.files disk)) (λ contents now. (g.met.D.Disk.at_now honest disk contents).0 now)
+    record {
+      were_empty = search rules;
+      exists = search rules;
+      kept = search rules;
+      moments = λ some full. begun g.D.Disk.moment g.D.Disk.left_at disk (MayLeaveNow (g.D.Disk.files disk)) (λ contents now. (g.met.D.Disk.at_now honest disk contents).0 now);
+    }
 
-pub returns-in_err-buffer-clause-kept_moments : goal.returns-in_err-buffer-clause-kept_moments
-returns-in_err-buffer-clause-kept_moments g c honest some full =
+pub returns-in_err-buffer-clause-non_empty : goal.returns-in_err-buffer-clause-non_empty
+returns-in_err-buffer-clause-non_empty g c honest =
     let disk = c.args.disk.now in
-    begun g.D.Disk.moment g.D.Disk.left_at disk (MayLeaveNow (g.D.Disk.files disk)) (λ contents now. (g.met.D.Disk.at_now honest disk contents).0 now)
+    record {
+      were_empty = search rules;
+      exists = search rules;
+      kept = search rules;
+      moments = λ some full. begun g.D.Disk.moment g.D.Disk.left_at disk (MayLeaveNow (g.D.Disk.files disk)) (λ contents now. (g.met.D.Disk.at_now honest disk contents).0 now);
+    }
+
+pub returns-then-branch-clause-non_empty : goal.returns-then-branch-clause-non_empty
+returns-then-branch-clause-non_empty g c honest = record {
+  were_empty = tt;
+  exists = λ same. c.in_ok-is_there.ensures.there honest c.if-branch.true;
+  kept = λ some full. c.is_there.ensures.same honest;
+  moments = λ some full. (c.is_there.ensures.only_reads honest).any_moment;
+}
 
 pub returns-in_err-kept-clause-begins : goal.returns-in_err-kept-clause-begins
 returns-in_err-kept-clause-begins g c honest rests =

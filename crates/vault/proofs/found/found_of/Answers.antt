@@ -1,13 +1,13 @@
-use Rattle.std.proofs.Common.{refl, ◌∙◌}
+use Rattle.std.proofs.Common.{refl}
 use Rattle.vault.proofs.found.found_of.Goals as goal
 
 pub returns-clause-found : goal.returns-clause-found
 returns-clause-found c read = record {
   is_side = read.is_side;
   kept = refl;
-  side_is = c.ending.ensures.side;
+  side_is = refl;
   starts = read.starts;
-  ends = c.ending.ensures.end ∙ read.ends;
+  ends = read.ends;
   text = read.text;
 }
 
@@ -17,7 +17,7 @@ returns-clause-kept c read = record {
   kept = refl;
   side_is = refl;
   starts = read.starts;
-  ends = c.ending.ensures.end ∙ read.ends;
+  ends = read.ends;
   text = read.text;
 }
 
@@ -25,7 +25,7 @@ pub returns-clause-sound : goal.returns-clause-sound
 returns-clause-sound c read = record {
   bytes = c.args.bytes.items;
   is_side = read.is_side;
-  ends = c.ending.ensures.end ∙ read.ends;
+  ends = read.ends;
   text_is = read.text;
   numbered = read.numbered;
   collections = read.collections;

@@ -26,11 +26,11 @@ returns-clause-nothing g c honest =
 
 pub returns-in_err-b-clause-only_reads : goal.returns-in_err-b-clause-only_reads
 returns-in_err-b-clause-only_reads g c honest =
-    then_reads g.D.Disk.files g.D.Disk.moment g.D.Disk.left_at c.args.disk.now c.generation_of.new.disk c.generation_of-2.new.disk (c.generation_of.ensures.only_reads honest) (c.generation_of-2.ensures.only_reads honest)
+    then_reads g.D.Disk c.args.disk.now c.generation_of.new.disk c.generation_of-2.new.disk (c.generation_of.ensures.only_reads honest) (c.generation_of-2.ensures.only_reads honest)
 
 pub returns-clause-only_reads : goal.returns-clause-only_reads
 returns-clause-only_reads g c honest =
-    then_reads g.D.Disk.files g.D.Disk.moment g.D.Disk.left_at c.args.disk.now c.generation_of.new.disk c.generation_of-2.new.disk (c.generation_of.ensures.only_reads honest) (c.generation_of-2.ensures.only_reads honest)
+    then_reads g.D.Disk c.args.disk.now c.generation_of.new.disk c.generation_of-2.new.disk (c.generation_of.ensures.only_reads honest) (c.generation_of-2.ensures.only_reads honest)
 
 pub returns-in_err-a-clause-heads : goal.returns-in_err-a-clause-heads
 returns-in_err-a-clause-heads g c honest fault is =

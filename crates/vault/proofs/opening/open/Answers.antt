@@ -20,12 +20,11 @@ pub returns-in-Ok-clause-ready : goal.returns-in-Ok-clause-ready
 returns-in-Ok-clause-ready g c honest = held_is_ready g.D.Disk.files c.sides_go_on.ensures.journal _ _ _ _ (returns-in-Ok-clause-found g c honest)
 
 pub returns-in-Ok-clause-tells : goal.returns-in-Ok-clause-tells
-returns-in-Ok-clause-tells g c honest = tells_ok (contents_of (g.D.Disk.files c.args.disk)) (HasErred g.D.Disk.failures g.D.Disk.refusals c.args.disk c.recover.new.disk) c.in-Ok.found _ (c.in-Ok.ensures.heads honest)
+returns-in-Ok-clause-tells g c honest = tells_ok (contents_of (g.D.Disk.files c.args.disk)) (HasErred g.D.Disk.failures g.D.Disk.refusals c.args.disk c.recover.new.disk) c.in-Ok.found _ (c.in-Ok.ensures.tells honest)
 
 pub returns-in-Err-clause-tells : goal.returns-in-Err-clause-tells
 returns-in-Err-clause-tells g c honest =
-    tells_err {S = Found} (contents_of (g.D.Disk.files c.args.disk)) (HasErred g.D.Disk.failures g.D.Disk.refusals c.args.disk c.recover.new.disk) c.in-Err.error
-    (c.in-Err.ensures.nothing honest) (c.in-Err.ensures.cause honest) (c.in-Err.ensures.heads honest)
+    tells_err {S = Found} (contents_of (g.D.Disk.files c.args.disk)) (HasErred g.D.Disk.failures g.D.Disk.refusals c.args.disk c.recover.new.disk) c.in-Err.error (c.in-Err.ensures.tells honest)
 
 pub returns-in-Ok-clause-causes : goal.returns-in-Ok-clause-causes
 returns-in-Ok-clause-causes g c = causes_of_ok g.D.Disk.failures g.D.Disk.refusals c.args.disk c.recover.new.disk c.in-Ok.found _ c.in-Ok.ensures.causes

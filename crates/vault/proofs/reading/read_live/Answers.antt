@@ -32,9 +32,8 @@ returns-in-Ok-clause-found g c honest =
 
 pub returns-in-Ok-clause-tells : goal.returns-in-Ok-clause-tells
 returns-in-Ok-clause-tells g c honest =
-    tells_ok (contents_of (g.D.Disk.files c.args.disk.now)) (HasErred g.D.Disk.failures g.D.Disk.refusals c.args.disk.now c.recover.new.disk) c.in-Ok.found _ (c.in-Ok.ensures.heads honest)
+    tells_ok (contents_of (g.D.Disk.files c.args.disk.now)) (HasErred g.D.Disk.failures g.D.Disk.refusals c.args.disk.now c.recover.new.disk) c.in-Ok.found _ (c.in-Ok.ensures.tells honest)
 
 pub returns-in-Err-clause-tells : goal.returns-in-Err-clause-tells
 returns-in-Err-clause-tells g c honest =
-    tells_err {S = Found} (contents_of (g.D.Disk.files c.args.disk.now)) (HasErred g.D.Disk.failures g.D.Disk.refusals c.args.disk.now c.recover.new.disk) c.in-Err.error
-    (c.in-Err.ensures.nothing honest) (c.in-Err.ensures.cause honest) (c.in-Err.ensures.heads honest)
+    tells_err {S = Found} (contents_of (g.D.Disk.files c.args.disk.now)) (HasErred g.D.Disk.failures g.D.Disk.refusals c.args.disk.now c.recover.new.disk) c.in-Err.error (c.in-Err.ensures.tells honest)

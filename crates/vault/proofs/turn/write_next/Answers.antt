@@ -1,7 +1,5 @@
-use Rattle.std.proofs.Common.{◌≡◌, ◌∙◌, ℕ, List, [], ◌∷◌, ◌++◌, OnOk, subst, arith}
-use Rattle.disk.specs.File.{at_rest}
-use Rattle.disk.specs.Time.{Contents, OtherMayBe, LeavesOnly}
-use Rattle.vault.specs.Turned.{MayTurn}
+use Rattle.std.proofs.Common.{◌≡◌, ◌∙◌, ℕ, List, [], ◌∷◌, ◌++◌, subst, arith}
+use Rattle.vault.specs.Turned.{WritesAnew}
 use Rattle.vault.proofs.TurnedLengths.{side_chained}
 use Rattle.vault.proofs.turn.write_next.Goals as goal
 
@@ -11,17 +9,6 @@ returns-clause-written g c honest =
     ++ (g.S.ImageSource.left c.new-behind.result.second.second.second.first ++ c.new-behind.result.second.second.second.second.left.now)))
     ≡ c.head_of-head.result ++ (c.args.text.now ++ (c.count_of-count.result ++ (g.S.ImageSource.left c.args.image ++ 0 ∷ [])))
     = grind (arith, c.new-behind.ensures, c.new-texted.ensures, c.new-counted.ensures, c.new-closed.ensures, c.new.ensures, c.new-2.ensures, c.new-3.ensures, c.new-4.ensures) in
-    subst (λ (l : List ℕ). OnOk c.write_side.result (g.D.Disk.files c.write_side.new.disk c.args.side ≡ at_rest (1 ∷ l)))
-    (spelled ∙ side_chained c.args.generation c.args.text.now (g.S.ImageSource.left c.args.image) c.head_of-head.result c.count_of-count.result c.length.result c.head_of-head.ensures c.count_of-count.ensures (omega (arith, c.requires.image, c.length.ensures)))
+    subst (λ (l : List ℕ). WritesAnew g.D.Disk c.args.side (1 ∷ l) c.args.disk.now c.write_side.new.disk c.write_side.result)
+    (spelled ∙ side_chained c.args.generation c.args.text.now (g.S.ImageSource.left c.args.image) c.head_of-head.result c.count_of-count.result c.length.result c.head_of-head.ensures c.count_of-count.ensures (omega (arith, c.requires.short.1, c.length.ensures)))
     (c.write_side.ensures.written honest)
-
-pub returns-clause-any_moment : goal.returns-clause-any_moment
-returns-clause-any_moment g c honest there =
-    let spelled : c.new-behind.result.first.left.now ++ (c.new-behind.result.second.first.left.now ++ (c.new-behind.result.second.second.first.left.now
-    ++ (g.S.ImageSource.left c.new-behind.result.second.second.second.first ++ c.new-behind.result.second.second.second.second.left.now)))
-    ≡ c.head_of-head.result ++ (c.args.text.now ++ (c.count_of-count.result ++ (g.S.ImageSource.left c.args.image ++ 0 ∷ [])))
-    = grind (arith, c.new-behind.ensures, c.new-texted.ensures, c.new-counted.ensures, c.new-closed.ensures, c.new.ensures, c.new-2.ensures, c.new-3.ensures, c.new-4.ensures) in
-    subst (λ (l : List ℕ). LeavesOnly g.D.Disk.moment g.D.Disk.left_at c.args.disk.now c.write_side.new.disk
-    (λ (contents : Contents). MayTurn (g.D.Disk.files c.args.disk.now c.args.side).content (1 ∷ l) (contents c.args.side) × OtherMayBe c.args.side (g.D.Disk.files c.args.disk.now) contents))
-    (spelled ∙ side_chained c.args.generation c.args.text.now (g.S.ImageSource.left c.args.image) c.head_of-head.result c.count_of-count.result c.length.result c.head_of-head.ensures c.count_of-count.ensures (omega (arith, c.requires.image, c.length.ensures)))
-    (c.write_side.ensures.any_moment honest there)
