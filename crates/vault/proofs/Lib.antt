@@ -1,4 +1,5 @@
 mod Appended
+mod AppendedStores
 pub mod BegunMoments
 mod Created
 mod ErredCalls

@@ -1,5 +1,5 @@
 -- Calls that sync and read a store's files, one after another.
-use Rattle.std.proofs.Common.{◌≡◌, ℕ, inl, inr, ap, subst, ◌∙◌}
+use Rattle.std.proofs.Common.{◌≡◌, inl, inr, ap, subst, ◌∙◌}
 use Rattle.std.specs.Prelude.{◌↔◌, Result, Ok, Err, OnOk}
 use Rattle.disk.specs.declared.side.Side.{Side}
 use Rattle.disk.specs.declared.side.Side.TheVariants.{A, B}

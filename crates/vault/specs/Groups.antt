@@ -1,5 +1,5 @@
 -- How a commit is spelled, of any number of events: in records of up to 64 events each, one behind another.
-use Rattle.std.specs.Prelude.{◌≡◌, ℕ, List, [], ◌∷◌, length, map, cond, nat_lt}
+use Rattle.std.specs.Prelude.{ℕ, List, [], ◌∷◌, length, map, cond, nat_lt}
 use Rattle.terms.specs.declared.event.Event.{Event}
 use Rattle.terms.specs.Commits.{Commit}
 use Rattle.codec.specs.declared.payload.TheConstants.{MOST_EVENTS}

@@ -89,10 +89,7 @@ fn write_store<D: Disk>(alloc: Global, disk: &mut D, text: &[u8]) -> Result<Made
     write_sides(disk, &buffer)?;
     let end = buffer.len() as u64 - 1;
     Ok(Made {
-        journal: Journal {
-            side: Side::A,
-            end,
-        },
+        journal: Journal { side: Side::A, end },
         kept,
         buffer,
     })
