@@ -2,7 +2,7 @@
 //!
 //! The files stand for a graph and a set of facts (`Stands` of `specs/Stands.antt`), which a vault holds (`Holds` of
 //! `specs/Store.antt`). The layer above uses `create`, `open`, `Vault::append`, `Vault::append_all` and `Vault::turn_by`: what each
-//! leaves at each moment, and after `Ok`. An append may lay the records of the next commits ahead.
+//! leaves at each moment, and after `Ok`. An append takes any number of events: a crash leaves all of them or none.
 #![tactic(auto)]
 
 mod append;
