@@ -31,7 +31,7 @@ pub enum AppendError {
     /// Before any call of the disk: nothing on it changed, and the journal ends where it did. The cause is `Full` or `NoMemory`.
     #[error("{0}")]
     Before(JournalError),
-    /// During a call of the disk: the payload may or may not be there.
+    /// During a call of the disk: all that was to be appended may be there, or nothing of it.
     #[error("{0}")]
     Within(DiskError),
 }
