@@ -76,8 +76,8 @@ one_in_front event [] = refl
 one_in_front event (group ∷ groups) = at (nat_lt (length group) MOST_EVENTS)
   where
     at : (small : Bool) → count_in (cond small ((event ∷ group) ∷ groups) ((event ∷ []) ∷ group ∷ groups)) ≡ 1 + (length group + count_in groups)
-    at true = refl
-    at false = refl
+    at true = omega arith
+    at false = omega arith
 
 all_counted : (commit : Commit) → length commit ≡ count_in (groups_of commit)
 all_counted [] = refl

@@ -60,8 +60,8 @@ pub(crate) enum Turned<'a> {
     Ends(Option<Met>),
 }
 
-/// How many instances a worker claims at once, at most, and how many results it commits as one record.
-pub(crate) const MOST_KEPT: usize = 64;
+/// How many instances a worker claims at once, at most, and how many results it commits as one.
+pub(crate) const MOST_KEPT: usize = 256;
 
 /// If fewer instances than this are ready, others may wait for what a worker keeps: once it keeps this number of results, it commits them before it claims more.
 pub(crate) const FEW: usize = 8;
