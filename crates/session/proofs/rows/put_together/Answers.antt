@@ -10,11 +10,8 @@ use Rattle.session.proofs.GroupReplies.{are_puts, no_more}
 use Rattle.session.proofs.Tried.{first_came, first_halted, idle_after, same_store}
 use Rattle.session.proofs.rows.put_together.Goals as goal
 
-pub put_all-requires-clause-puts : goal.put_all-requires-clause-puts
-put_all-requires-clause-puts g c = subst (λ (list : List Event). AllByRecursion IsPut list) (sym c.in-Ok.ensures) (are_puts c.args.commands.now)
-
-pub put_all-requires-clause-few : goal.put_all-requires-clause-few
-put_all-requires-clause-few g c = omega (arith, ap length c.in-Ok.ensures, no_more c.args.commands.now, c.requires.few)
+pub put_all-requires : goal.put_all-requires
+put_all-requires g c = subst (λ (list : List Event). AllByRecursion IsPut list) (sym c.in-Ok.ensures) (are_puts c.args.commands.now)
 
 pub returns-in-Ok-put_all-clause-idle : goal.returns-in-Ok-put_all-clause-idle
 returns-in-Ok-put_all-clause-idle g c =
