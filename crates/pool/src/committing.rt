@@ -8,7 +8,7 @@ ghost use Rattle.pool.specs.Worked.{AreKept, HasAll, IsHand, Justifies};
 
 use crate::hand::Hand;
 use crate::settling::settled_all;
-use crate::worker::{MOST_KEPT, Met};
+use crate::worker::Met;
 use commit::Batch;
 use disk::Disk;
 use hub::{Hub, Visit, WorkPass};
@@ -103,7 +103,7 @@ fn claim_next<J: Naming, D: Disk>(
     requires { IsHand J.opening pass.old.seen hand.old }
     ensures { IsHand J.opening pass.new.seen hand.new }
 {
-    let most = MOST_KEPT.saturating_sub(hand.claimed.len());
+    let most = hand.pace.most_kept().saturating_sub(hand.claimed.len());
     let _ = visit.claim_some(pass, &mut hand.claimed, most);
 }
 

@@ -1,4 +1,7 @@
 //! How a worker shares out the work with others, by what it remembers of the bodies that it ran. No clause knows of it.
+ghost use Rattle.std.specs.Prelude.{◌≤◌};
+ghost use Rattle.pool.specs.declared.worker.TheConstants.{MOST_KEPT};
+
 use crate::worker::{FEW, MOST_KEPT};
 use disk::Disk;
 use hub::Hub;
@@ -32,6 +35,12 @@ const STEPS: u16 = 64;
 // A body looks for items among the results that are kept if these have at most this number of puts, since it goes through all of them.
 const FEW_PUTS: usize = 256;
 
+// How many results a worker keeps, and how many instances it claims at once, while some body waited of late: others may wait for what is kept.
+const SOME_KEPT: usize = 64;
+
+// After how many bodies that ended, one after another, none has waited of late.
+const CALM: u32 = 256;
+
 // How often in a row a worker that left the work to another sees that nothing was committed meanwhile, before it works all the same.
 const QUIET: u32 = 4;
 
@@ -50,6 +59,8 @@ pub(crate) struct Pace {
     heavy: u64,
     // The statements of its bodies of late, to their ends or up to items that were not there: of some `SPAN` of them.
     work: u32,
+    // How many bodies have ended since one waited, up to `CALM` of them.
+    calm: u32,
     // Whether it is the worker that leads.
     leads: bool,
     // How often in a row it has seen no commit while it left the work to another.
@@ -74,6 +85,7 @@ impl Pace {
             many: false,
             heavy: 0,
             work: FIRST_WORK,
+            calm: 0,
             leads: false,
             quiet: 0,
             left: false,
@@ -96,6 +108,7 @@ impl Pace {
             self.heavy |= bit_of(step);
         }
         self.note_work(statements);
+        self.calm = self.calm.saturating_add(1).min(CALM);
         self.left = false;
         self.in_vain = false;
         self.quiet = 0;
@@ -189,6 +202,22 @@ impl Pace {
         self.puts > FEW_PUTS
     }
 
+    /// Notes that a body misses an item.
+    pub(crate) fn note_missing(&mut self) {
+        self.calm = 0;
+    }
+
+    /// How many results it keeps, at most, and how many instances it claims at once.
+    pub(crate) fn most_kept(&self) -> usize
+        ensures { result ≤ MOST_KEPT }
+    {
+        if self.calm < CALM {
+            SOME_KEPT
+        } else {
+            MOST_KEPT
+        }
+    }
+
     /// Whether results that are kept are to be committed now, since others may have waited for them for long.
     pub(crate) fn is_due(&self) -> bool {
         self.spent >= LONG
@@ -199,7 +228,7 @@ impl Pace {
         if self.left {
             1
         } else {
-            MOST_KEPT.saturating_sub(kept)
+            self.most_kept().saturating_sub(kept)
         }
     }
 }

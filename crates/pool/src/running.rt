@@ -14,7 +14,7 @@ use crate::committing::{commit, commit_before, commit_kept, exchange};
 use crate::hand::{Hand, count_of};
 use crate::resuming::{go_on, wait_for_own};
 use crate::settling::{finish, park, settled, stopped_by};
-use crate::worker::{MOST_KEPT, Met, Turned, ends, goes_on_unless};
+use crate::worker::{Met, Turned, ends, goes_on_unless};
 use crate::{Answer, Probe};
 use commit::{Batch, Outcome};
 use disk::Disk;
@@ -89,6 +89,7 @@ fn begin<'a, J: Naming, D: Disk, R: Wait>(
         }
         Ok(Ran::Waits(run, ahead)) => {
             hand.note(run.statements(), 0, kept.is_some());
+            hand.pace.note_missing();
             hand.pace.note_work(run.statements());
             let own = hand.own(count_of(&kept));
             if hand.pace.leaves(step, own, hub.running()) {
@@ -251,7 +252,7 @@ fn go_on_with<'a, J: Naming, D: Disk, R: Wait>(
     if hand.pace.is_due() {
         return goes_on_unless(commit(rt, hub, pass, batch));
     }
-    if batch.len() < MOST_KEPT {
+    if batch.len() < hand.pace.most_kept() {
         return Turned::GoesOn(Some(batch));
     }
     goes_on_unless(exchange(rt, hub, pass, hand, batch))
