@@ -17,14 +17,6 @@ use Rattle.commit.specs.declared.creation.NotCreated.{NotCreated}
 use Rattle.commit.specs.Core.{Core, graph, facts, environment}
 use Rattle.commit.specs.Opened.{IsOpened}
 
--- A new core of this graph: it has no facts, it is as one that was just opened, and it has the first generation.
-pub record IsNewOf {D : Type 0} (g : TheGraph) (c : Core D) : Type 0 where
-  pub graph : graph c ≡ g
-  pub facts : (fact : Fact) → facts c fact ≡ false
-  pub environment : (fact : Fact) → environment c fact ≡ false
-  pub opened : IsOpened c
-  pub generation : c.vault.generation ≡ 1
-
 -- A new store: the text reads as its graph, it has no facts, its core is as one that was just opened, and it has the first generation. On an honest
 -- disk each file has its first byte.
 pub record IsCreated {D : Type 0} (storage : Ghosts D) (text : List ℕ) (c : Core D) : Type 0 where

@@ -37,11 +37,11 @@ impl<D: Disk> Core<D> {
     ghost use Rattle.graph.specs.Canonical.{canonical};
     ghost use Rattle.graph.specs.Reads.{Reads};
     ghost use Rattle.vault.specs.Calls.{LeavesNonEmpty, RefusesToMake};
-    ghost use Rattle.vault.specs.Opened.{contents_of};
-    ghost use Rattle.vault.specs.Store.{BComesFirst, HasGates, answer_of as made_answer};
+    ghost use Rattle.vault.specs.Store.{BComesFirst, answer_of as made_answer};
     ghost use Rattle.vault.specs.declared.error.VaultError.TheVariants.{Device, NoMemory};
     ghost use Rattle.commit.specs.declared.creation.CreateError.TheVariants.{Store};
-    ghost use Rattle.commit.specs.Created.{IsCreated, IsNewOf, TellsCreation, LeavesOthers, disk_of, answer_of};
+    ghost use Rattle.commit.specs.Core.{graph as graph_of};
+    ghost use Rattle.commit.specs.Created.{IsCreated, TellsCreation, LeavesOthers, disk_of, answer_of};
     ghost use Rattle.commit.specs.Opened.{disk_of as opened_disk};
 
     /// Makes a store of the graph of this text, on two empty files. It holds nothing.
@@ -80,8 +80,8 @@ impl<D: Disk> Core<D> {
     fn made(alloc: Global, disk: D, graph: Graph, text: &[u8]) -> Result<Core<D>, Refused<D>>
         requires spelled { text.now ≡ canonical graph }
         requires reads { Reads text.now graph }
-        ensures core { IfOk result (IsNewOf graph) }
-        ensures gates { IsTrue D.is_honest → IfOk result (λ core. HasGates (contents_of (D.files core.vault.disk))) }
+        ensures graph { IfOk result (λ core. graph_of core ≡ graph) }
+        ensures created { IfOk result (IsCreated D.Disk text.now) }
         ensures others { IsTrue D.is_honest → LeavesNonEmpty D.Disk disk (opened_disk result) (made_answer result) }
         ensures begins { IsTrue D.is_honest → D.files disk A ≡ at_rest [] → Leaves D.Disk disk (opened_disk result) BComesFirst }
         ensures refused { RefusesToMake D.Disk disk (opened_disk result) (made_answer result) }

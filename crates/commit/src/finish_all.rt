@@ -130,7 +130,8 @@ impl<D: Disk> Core<D> {
         self.machine.runs_all(tasks)
     }
 
-    // Commits these ends of the first of the tasks, which must be due; the answer is the one that is given. If they are refused, all of the instances are ready; otherwise those that did not end are.
+    // Commits these ends of the first of the tasks, which must be due; the answer is the one that is given. If they are refused, all of
+    // the instances are ready; otherwise those that did not end are.
     fn commit_ends(
         &mut self,
         tasks: Tasks,

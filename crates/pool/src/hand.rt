@@ -243,7 +243,7 @@ impl<'a> Hand<'a> {
         if self.looked >= batch.len() {
             return Ok(());
         }
-        let most = MOST_KEPT.saturating_sub(batch.len());
+        let most = self.pace.most_kept().saturating_sub(batch.len());
         let mut visit = hub.visit(rt);
         for number in self.looked..batch.len() {
             let left = most.saturating_sub(self.claimed.len());

@@ -4,7 +4,7 @@ use Rattle.terms.specs.declared.event.Event.{Event}
 use Rattle.terms.specs.Facts.{facts, environment}
 use Rattle.terms.specs.Sets.{Facts, with_facts}
 
--- the events of one record, in order
+-- the events of one append, in order
 abbrev pub Commit : Type 0
 Commit = List Event
 

@@ -14,8 +14,8 @@ not_of_text is = cc
 
 pub returns-in-Ok-made-clause-created : goal.returns-in-Ok-made-clause-created
 returns-in-Ok-made-clause-created g c =
-    let it = c.in-Ok-made.ensures.core in
-    record { reads = subst (λ (h : Graph). Reads c.args.text.now h) (sym it.graph) c.in-Ok.ensures.reads; facts = it.facts; environment = it.environment; opened = it.opened; generation = it.generation; gates = c.in-Ok-made.ensures.gates }
+    let it = c.in-Ok-made.ensures.created in
+    record { reads = subst (λ (h : Graph). Reads c.args.text.now h) (sym c.in-Ok-made.ensures.graph) c.in-Ok.ensures.reads; facts = it.facts; environment = it.environment; opened = it.opened; generation = it.generation; gates = it.gates }
 
 pub returns-in-Ok-made-clause-others : goal.returns-in-Ok-made-clause-others
 returns-in-Ok-made-clause-others g c honest = others_ok g.D.Disk _ _ (c.in-Ok-made.ensures.others honest)

@@ -1,4 +1,6 @@
-use Rattle.std.proofs.Common.{◌≡◌, [], inl, inr, refl, Result, Err}
+use Rattle.std.proofs.Common.{◌≡◌, [], inl, inr, refl, rules, subst, sym, Result, Err}
+use Rattle.graph.specs.Graph.{Graph}
+use Rattle.graph.specs.Reads.{Reads}
 use Rattle.vault.specs.declared.error.VaultError.{VaultError}
 use Rattle.vault.specs.declared.error.VaultError.TheVariants.{Device, NoMemory, Exists}
 use Rattle.machine.specs.Machine.{environment as environment_of, facts as facts_of}
@@ -59,5 +61,13 @@ returns-in-Err-clause-begins g c honest empty = left_empty g.D.Disk (g.met.D.Dis
 pub returns-in-Err-clause-refused : goal.returns-in-Err-clause-refused
 returns-in-Err-clause-refused g c = record { errors = inr (inl refl); causes = unasked g.D.Disk _ _ _ c.args.disk not_failed; grown_first = λ is same. refl }
 
-pub returns-in-Ok-create-clause-gates : goal.returns-in-Ok-create-clause-gates
-returns-in-Ok-create-clause-gates g c honest = let it = c.in-Ok-create.ensures.created honest in at_rest_gates g.D.Disk.files c.in-Ok-create.vault.disk _ it.a it.b
+pub returns-in-Ok-create-clause-created : goal.returns-in-Ok-create-clause-created
+returns-in-Ok-create-clause-created g c =
+    record {
+      reads = subst (λ (h : Graph). Reads c.args.text.now h) (sym c.in-Ok.ensures.graph) c.requires.reads;
+      facts = c.in-Ok.ensures.facts;
+      environment = c.in-Ok.ensures.environment;
+      opened = search rules;
+      generation = search rules;
+      gates = λ honest. let it = c.in-Ok-create.ensures.created honest in at_rest_gates g.D.Disk.files c.in-Ok-create.vault.disk _ it.a it.b;
+    }
