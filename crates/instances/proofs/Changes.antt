@@ -3,7 +3,6 @@ use Rattle.std.proofs.Common.{◌≡◌, ◌∙◌, ap, sym, refl, subst, ℕ, �
 use Rattle.std.specs.Ordering.{eq_by_cmp}
 use Rattle.std.specs.FinMap.{FinMap, entries, get, insert}
 use Rattle.std.specs.List.Sorted.{IsPermutation}
-use Rattle.std.proofs.lemmas.List.{length_push}
 use Rattle.std.proofs.lemmas.List.Sorted.{length_permutation, sum_by-IsPermutation}
 use Rattle.terms.specs.Key.{key_cmp}
 use Rattle.maps.specs.Keyed.{Keyed, Adds}
@@ -11,7 +10,7 @@ use Rattle.instances.specs.declared.state.State.{State}
 use Rattle.instances.specs.declared.state.State.TheVariants.{Ready, Running, Waiting, Done}
 use Rattle.instances.specs.OfStep.{OfStep, is_ready, is_running, one_if, times, IsKept, IsWaiting, Moves, AddsInstance}
 use Rattle.instances.proofs.Counted.{one_counts, one_fewer}
-use Rattle.instances.proofs.Kept.{Keys, at_key, kept, as_many, one_more, times_pushed, times_put_first, times_taken, stood}
+use Rattle.instances.proofs.Kept.{Keys, at_key, kept, as_many, one_more, times_put_first, times_taken, stood}
 
 -- an instance that is counted as ready is ready
 only_ready : (o : Option State) → 1 ≤ one_if is_ready o → o ≡ Some Ready
@@ -100,11 +99,11 @@ module _ (states : FinMap key_cmp State) (key : List ℤ) (ready : Keys) (runnin
       (omega (arith, as_many states key Running ready running capacity is (ap is_some state), is.enough))
 
   -- a new instance is ready
-  pub comes : get states key ≡ None → length (entries states) + 1 ≤ capacity → IsKept (insert states key Ready) (ready ++ key ∷ []) running capacity
+  pub comes : get states key ≡ None → length (entries states) + 1 ≤ capacity → IsKept (insert states key Ready) (key ∷ ready) running capacity
   comes gone enough =
-      kept states key Ready ready running capacity is (ready ++ key ∷ []) running
-      (λ q. omega (arith, times_pushed q key ready, ap (at_key q key) (ap (one_if is_ready) gone), no_more q key))
-      (omega (arith, ap (one_if is_ready) gone, length_push ready key))
+      kept states key Ready ready running capacity is (key ∷ ready) running
+      (λ q. omega (arith, times_put_first q key ready, ap (at_key q key) (ap (one_if is_ready) gone), no_more q key))
+      (omega (arith, ap (one_if is_ready) gone))
       (omega (arith, ap (one_if is_running) gone))
       (omega (arith, one_more states key Ready ready running capacity is gone, enough))
 
@@ -146,10 +145,10 @@ module _ (old new : Keyed State) (capacity : ℕ) (now : OfStep) (key : List ℤ
         omega (arith, some),
       )
 
-  pub adds_ready : (ready : Keys) (running : ℕ) → IsKept old.items ready running capacity → Adds old new key Ready → get now.states key ≡ None → 0 < now.room → IsKept new.items (ready ++ key ∷ []) running capacity
+  pub adds_ready : (ready : Keys) (running : ℕ) → IsKept old.items ready running capacity → Adds old new key Ready → get now.states key ≡ None → 0 < now.room → IsKept new.items (key ∷ ready) running capacity
   adds_ready ready running kept added gone room =
       let found = adds Ready ready running kept added gone room in
-      subst (λ items. IsKept items (ready ++ key ∷ []) running capacity) (sym added.items) (comes old.items key ready running capacity kept found.1 found.2)
+      subst (λ items. IsKept items (key ∷ ready) running capacity) (sym added.items) (comes old.items key ready running capacity kept found.1 found.2)
 
   pub adds_done : (ready : Keys) (running : ℕ) → IsKept old.items ready running capacity → Adds old new key Done → get now.states key ≡ None → 0 < now.room → IsKept new.items ready running capacity
   adds_done ready running kept added gone room =

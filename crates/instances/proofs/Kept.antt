@@ -52,10 +52,7 @@ module _ (states : FinMap key_cmp State) (key : List ℤ) (to : State) (ready : 
   pub one_more : get states key ≡ None → length (entries (insert states key to)) ≡ length (entries states) + 1
   one_more gone = sym (len-entries (insert states key to)) ∙ len-insert keys_total states key to ∙ ap (λ o. cond (is_some o) (len states) (len states + 1)) gone ∙ ap (λ n. n + 1) (len-entries states)
 
--- one more key, at the end or in front, and a key that is taken out
-pub times_pushed : (q key : List ℤ) (keys : Keys) → times q (keys ++ key ∷ []) ≡ times q keys + at_key q key 1
-times_pushed q key keys = omega (arith, sum_by-append (λ k. cond (eq_by_cmp key_cmp q k) 1 0) keys (key ∷ []))
-
+-- one more key, and a key that is taken out
 pub times_put_first : (q key : List ℤ) (keys : Keys) → times q (key ∷ keys) ≡ at_key q key 1 + times q keys
 times_put_first q key keys = omega (arith, sum_by-append (λ k. cond (eq_by_cmp key_cmp q k) 1 0) (key ∷ []) keys)
 

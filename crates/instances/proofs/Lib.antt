@@ -4,6 +4,7 @@ mod Changes
 mod Counted
 mod DoneLeft
 mod Growing
+mod Handing
 mod Joining
 mod Kept
 mod Lengths
@@ -12,6 +13,7 @@ mod Order
 mod Passing
 mod Picked
 mod Prescribing
+mod Queued
 mod Quiet
 mod Restoring
 mod Runs

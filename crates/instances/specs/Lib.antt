@@ -7,8 +7,10 @@ pub mod Listed
 pub mod MarkedDone
 pub mod Marks
 pub mod OfStep
+pub mod Queue
 pub mod Restored
 pub mod RestoredSteps
 pub mod Running
 pub mod Standings
 pub mod There
+pub mod Tickets

@@ -17,7 +17,7 @@ pub struct Instances {
     pub(crate) tags: CollectionMap<bool>,
     pub(crate) steps: Vec<Step>,
     // The step from which on the next claim looks for a ready instance.
-    turn: usize,
+    pub(crate) turn: usize,
 }
 
 impl Model for Instances {
@@ -367,14 +367,6 @@ impl Instances {
         self.steps[inst.collection.0 as usize]
             .instances
             .release(inst.key);
-    }
-
-    /// Leaves the instance of a task running, and nobody ends it.
-    pub fn set_aside(&mut self, task: Task)
-        requires { state_at self.old task ≡ Some Running }
-        ensures { self.new ≡ self.old }
-    {
-        let _ = task.into_inst();
     }
 
     /// Makes a waiting instance ready.

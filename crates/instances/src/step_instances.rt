@@ -1,13 +1,11 @@
 use crate::State;
-use crate::queue_order::QueueOrder;
+use crate::ready_queue::ReadyQueue;
 use crate::standing::Standing;
 use crate::state_walk::StateWalk;
 use crate::states::States;
 use maps::{Hint, MarkedMap};
 use std::alloc::{AllocError, Global};
-use std::collections::VecDeque;
 use std::marker::Model;
-use std::mem;
 use terms::{Addr, Key};
 
 /// The instances of one step, each with its state. No later change of an instance needs memory, except that it begins to wait: its other room is
@@ -15,12 +13,8 @@ use terms::{Addr, Key};
 #[derive(Drop)]
 pub(crate) struct StepInstances {
     states: States,
-    // The keys of the ready instances, with room for all instances. A new one goes to the end of the queue, and one
-    // that already ran goes to its front. So they run in about the order in which they came, whether they had to wait
-    // or not; but if many have to wait, those that are ready are put in the order of their keys: where several workers run the steps that put the tags,
-    // these come out of order, and an instance often needs what one with a smaller key puts. No promise is made about that order.
-    ready: VecDeque<Key>,
-    order: QueueOrder,
+    // Those that are ready, with room for all instances.
+    ready: ReadyQueue,
     running: usize,
     waiting: usize,
 }
@@ -28,21 +22,21 @@ pub(crate) struct StepInstances {
 impl Model for StepInstances {
     ghost use Rattle.std.specs.Prelude.{◌≡◌, ◌-◌, length, min};
     ghost use Rattle.std.specs.FinMap.{entries};
-    ghost use Rattle.std.specs.VecDeque.{deque_capacity};
     ghost use Rattle.instances.specs.Codes.{of_step_code};
     ghost use Rattle.instances.specs.OfStep.{OfStep, IsKept, how_many, is_waiting};
+    ghost use Rattle.instances.specs.Queue.{capacity, keys};
 
     ghost Value = { OfStep };
 
     ghost coded = { of_step_code };
 
-    ghost view = { λ s. record { states = s.states.items; room = min s.states.room (deque_capacity s.ready - length (entries s.states.items)) } };
+    ghost view = { λ s. record { states = s.states.items; room = min s.states.room (capacity s.ready - length (entries s.states.items)) } };
 
-    ghost invariant = { λ s. IsKept s.states.items s.ready.items s.running (deque_capacity s.ready) × (s.waiting ≡ how_many is_waiting s.states.items) };
+    ghost invariant = { λ s. IsKept s.states.items (keys s.ready) s.running (capacity s.ready) × (s.waiting ≡ how_many is_waiting s.states.items) };
 }
 
 impl StepInstances {
-    ghost use Rattle.std.specs.Prelude.{◌≡◌, ◌+◌, ◌<◌, ◌≤◌, IfOk, IfSome, IsSome, OnOk, OnErr, Some, None, cond, length};
+    ghost use Rattle.std.specs.Prelude.{◌≡◌, ◌+◌, ◌<◌, ◌≤◌, IfOk, IfSome, IsSome, OnOk, OnErr, Some, None, cond, false, length, true};
     ghost use Rattle.std.specs.FinMap.{empty, entries, get};
     ghost use Rattle.instances.specs.declared.state.State.TheVariants.{Ready, Running, Waiting, Done};
     ghost use Rattle.instances.specs.MarkedDone.{MarksDone};
@@ -54,8 +48,7 @@ impl StepInstances {
     {
         StepInstances {
             states: States::new(alloc),
-            ready: VecDeque::new(alloc),
-            order: QueueOrder::new(),
+            ready: ReadyQueue::new(alloc),
             running: 0,
             waiting: 0,
         }
@@ -169,9 +162,8 @@ impl StepInstances {
         requires room { 0 < self.old.room }
         ensures { AddsInstance self.old self.new key Ready }
     {
-        self.order.note(self.ready.back(), Some(&key));
         self.states.add(key, false);
-        self.ready.push_back_reserved(key);
+        self.ready.put_last(key);
     }
 
     // Adds an instance that is done. Room for it among the ready ones is kept, as for all others.
@@ -189,10 +181,43 @@ impl StepInstances {
         ensures none { how_many is_ready self.old.states ≤ at → (result ≡ None) × (self.new ≡ self.old) }
         ensures claimed { IfSome result (λ key. (get self.old.states key ≡ Some Ready) × Moves self.old self.new key Running) }
     {
-        let key = self.ready.swap_remove_front(at)?;
+        let key = self.ready.take(at)?;
         self.states.set(key, Standing::Running);
         self.running += 1;
         Some(key)
+    }
+
+    /// Lets an instance run that was handed out under this number. Says whether it was.
+    pub(crate) fn claim_under(&mut self, number: u64, key: Key) -> bool
+        ensures claimed { result ≡ true → (get self.old.states key ≡ Some Ready) × Moves self.old self.new key Running }
+        ensures none { result ≡ false → self.new ≡ self.old }
+    {
+        if !self.ready.take_under(number, key) {
+            return false;
+        }
+        self.states.set(key, Standing::Running);
+        self.running += 1;
+        true
+    }
+
+    /// Whether an instance is ready, and was handed out under this number.
+    pub(crate) fn is_under(&self, number: u64, key: Key) -> bool {
+        self.ready.is_under(number, key)
+    }
+
+    /// Hands out a ready instance under this number, if there is one that was not handed out. An error changes nothing.
+    pub(crate) fn hand_out(&mut self, number: u64) -> Result<Option<Key>, AllocError>
+        ensures same { self.new ≡ self.old }
+        ensures ready { IfOk result (λ handed. IfSome handed (λ key. get self.old.states key ≡ Some Ready)) }
+    {
+        self.ready.hand_out(number)
+    }
+
+    /// No ready instance counts as handed out any more.
+    pub(crate) fn recall(&mut self)
+        ensures { self.new ≡ self.old }
+    {
+        self.ready.recall();
     }
 
     /// Ends an instance that runs.
@@ -224,7 +249,7 @@ impl StepInstances {
     {
         match self.park(key, addr) {
             Ok(()) => {
-                self.put_in_order();
+                self.ready.note_wait();
                 Ok(())
             }
             Err(error) => {
@@ -234,26 +259,13 @@ impl StepInstances {
         }
     }
 
-    // Puts the ready instances in the order of their keys, if they are not and enough have begun to wait to make it worth while.
-    fn put_in_order(&mut self)
-        ensures { self.new ≡ self.old }
-    {
-        if self.order.is_due(self.ready.len()) {
-            let empty = VecDeque::new(*self.ready.allocator());
-            let mut keys = mem::replace(&mut self.ready, empty).into_vec();
-            keys.sort_unstable();
-            self.ready = VecDeque::from_vec(keys);
-        }
-    }
-
     /// Gives back an instance that runs.
     pub(crate) fn release(&mut self, key: Key)
         requires { get self.old.states key ≡ Some Running }
         ensures { Moves self.old self.new key Ready }
     {
-        self.order.note(Some(&key), self.ready.front());
         self.states.set(key, Standing::Ready);
-        self.ready.push_front_reserved(key);
+        self.ready.put_first(key);
         self.running -= 1;
     }
 
@@ -262,9 +274,8 @@ impl StepInstances {
         requires { IsWaiting (get self.old.states key) }
         ensures { Moves self.old self.new key Ready }
     {
-        self.order.note(Some(&key), self.ready.front());
         self.states.wake(key);
-        self.ready.push_front_reserved(key);
+        self.ready.put_first(key);
         self.waiting -= 1;
     }
 }

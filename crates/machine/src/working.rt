@@ -54,14 +54,6 @@ impl Machine {
         self.memory.instances.release(task);
     }
 
-    /// Leaves the instance of a task running: nobody ends it any more, and it is not claimed again. That is for a state that is made to be looked at, and then let go.
-    pub fn set_aside(&mut self, task: Task)
-        requires { state_of self.old task ≡ Some Running }
-        ensures { self.new ≡ self.old }
-    {
-        self.memory.instances.set_aside(task);
-    }
-
     /// Makes the instances ready that wait for an item which one of these puts puts, although the item may not be there: so that their bodies can
     /// be run over results that are not committed yet.
     pub fn wake(&mut self, puts: &[Put])

@@ -1,6 +1,6 @@
 use Rattle.std.proofs.Common.{◌<◌, sym, subst, refl, arith}
-use Rattle.std.specs.VecDeque.{deque_capacity}
 use Rattle.instances.specs.declared.state.State.TheVariants.{Done}
+use Rattle.instances.specs.Queue.{capacity, keys}
 use Rattle.instances.proofs.Changes.{adds, adds_done}
 use Rattle.instances.proofs.Tallied.{waits_added}
 use Rattle.instances.proofs.step_instances.StepInstances.add_done.Goals as goal
@@ -10,10 +10,10 @@ add-requires-clause-room c = let some = subst (λ seen. 0 < seen.room) (sym c.se
 
 pub invariant_of-self : goal.invariant_of-self
 invariant_of-self c = (
-  adds_done c.self.inside.states c.add.new.self (deque_capacity c.self.inside.ready) c.args.self.now c.args.key c.self.view_is c.self.inside.ready.items c.self.inside.running c.self.invariant.0 c.add.ensures c.requires.absent c.requires.room,
-  waits_added c.self.inside.states c.add.new.self (deque_capacity c.self.inside.ready) c.args.self.now c.args.key c.self.view_is Done c.self.inside.waiting c.self.invariant.1 c.add.ensures c.requires.absent refl,
+  adds_done c.self.inside.states c.add.new.self (capacity c.self.inside.ready) c.args.self.now c.args.key c.self.view_is (keys c.self.inside.ready) c.self.inside.running c.self.invariant.0 c.add.ensures c.requires.absent c.requires.room,
+  waits_added c.self.inside.states c.add.new.self (capacity c.self.inside.ready) c.args.self.now c.args.key c.self.view_is Done c.self.inside.waiting c.self.invariant.1 c.add.ensures c.requires.absent refl,
 )
 
 pub returns : goal.returns
 returns c =
-    (adds c.self.inside.states c.add.new.self (deque_capacity c.self.inside.ready) c.args.self.now c.args.key c.self.view_is Done c.self.inside.ready.items c.self.inside.running c.self.invariant.0 c.add.ensures c.requires.absent c.requires.room).0
+    (adds c.self.inside.states c.add.new.self (capacity c.self.inside.ready) c.args.self.now c.args.key c.self.view_is Done (keys c.self.inside.ready) c.self.inside.running c.self.invariant.0 c.add.ensures c.requires.absent c.requires.room).0

@@ -1,15 +1,15 @@
 use Rattle.std.proofs.Common.{◌∙◌, ap, sym, subst, refl, is_some, arith}
 use Rattle.std.specs.FinMap.{get}
-use Rattle.std.specs.VecDeque.{deque_capacity}
 use Rattle.instances.specs.OfStep.{Moves, is_waiting, one_if}
 use Rattle.instances.specs.declared.state.State.TheVariants.{Ready, Running}
+use Rattle.instances.specs.Queue.{capacity, keys}
 use Rattle.instances.proofs.Changes.{one_runs, has_room, comes_back, moves, seen_of}
 use Rattle.instances.proofs.Tallied.{as_many_wait}
 use Rattle.instances.proofs.step_instances.StepInstances.release.Goals as goal
 
-pub push_front_reserved-requires : goal.push_front_reserved-requires
-push_front_reserved-requires c =
-    omega (arith, has_room _ c.args.key _ _ _ c.self.invariant.0 Running (ap (λ seen. get seen.states c.args.key) c.self.view_is ∙ c.requires) refl, c.self.inside.ready.ok.0)
+pub put_first-requires : goal.put_first-requires
+put_first-requires c =
+    omega (arith, has_room _ c.args.key _ _ _ c.self.invariant.0 Running (ap (λ seen. get seen.states c.args.key) c.self.view_is ∙ c.requires) refl)
 
 pub overflow_sub-self : goal.overflow_sub-self
 overflow_sub-self c = one_runs _ c.args.key _ _ _ c.self.invariant.0 (ap (λ seen. get seen.states c.args.key) c.self.view_is ∙ c.requires)
@@ -17,12 +17,12 @@ overflow_sub-self c = one_runs _ c.args.key _ _ _ c.self.invariant.0 (ap (λ see
 pub invariant_of-self : goal.invariant_of-self
 invariant_of-self c =
     let runs = ap (λ seen. get seen.states c.args.key) c.self.view_is ∙ c.requires in (
-      rw (c.push_front_reserved.ensures.items, c.push_front_reserved.ensures.capacity, c.set.ensures) (comes_back _ c.args.key _ _ _ c.self.invariant.0 runs),
+      rw (c.put_first.ensures.keys, c.put_first.ensures.capacity, c.set.ensures) (comes_back _ c.args.key _ _ _ c.self.invariant.0 runs),
       rw c.set.ensures (as_many_wait _ c.args.key Ready c.self.inside.waiting c.self.invariant.1 (ap (one_if is_waiting) runs) refl),
     )
 
 pub returns : goal.returns
 returns c =
-    subst (λ capacity. Moves c.args.self.now (seen_of c.set.new.self capacity) c.args.key Ready) (sym c.push_front_reserved.ensures.capacity)
-    (moves c.self.inside.states c.set.new.self (deque_capacity c.self.inside.ready) c.args.self.now c.args.key c.self.view_is Ready c.self.inside.ready.items c.self.inside.running c.self.invariant.0
+    subst (λ room. Moves c.args.self.now (seen_of c.set.new.self room) c.args.key Ready) (sym c.put_first.ensures.capacity)
+    (moves c.self.inside.states c.set.new.self (capacity c.self.inside.ready) c.args.self.now c.args.key c.self.view_is Ready (keys c.self.inside.ready) c.self.inside.running c.self.invariant.0
     (ap is_some (ap (λ seen. get seen.states c.args.key) c.self.view_is ∙ c.requires)) c.set.ensures)
