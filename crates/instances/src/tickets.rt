@@ -44,7 +44,8 @@ impl Instances {
 
     /// Lets the instance of a ticket run, if it is ready and the ticket stands for it: it was not claimed since the ticket was handed out, and not recalled.
     pub fn claim_by(&mut self, ticket: &Ticket) -> Option<Task>
-        ensures claimed { IfSome result (λ task. (task ≡ ticket.now.inst) × (state_at self.old task ≡ Some Ready) × MovesOne self.old self.new task Running) }
+        ensures inst { IfSome result (λ task. task ≡ ticket.now.inst) }
+        ensures claimed { IfSome result (λ task. (state_at self.old task ≡ Some Ready) × MovesOne self.old self.new task Running) }
         ensures none { result ≡ None → self.new ≡ self.old }
     {
         let inst = ticket.inst;

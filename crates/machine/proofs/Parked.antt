@@ -116,18 +116,18 @@ module _ (total : IsTotalOrder inst_cmp) (tie : IsAntisymmetric inst_cmp) (old n
       its_address is = cc
 
 -- after a claim a store still holds what a store of the graph may hold
-pub claimed_is_of : (total : IsTotalOrder inst_cmp) (tie : IsAntisymmetric inst_cmp) (g : Graph) (old new : Memory) (ready at : ℕ) (result : Option Inst) → new.items ≡ old.items → new.fault ≡ old.fault
-    → (at < ready → IsSome result) → (ready ≤ at → (result ≡ None) × (new.instances ≡ old.instances))
+pub claimed_is_of : (total : IsTotalOrder inst_cmp) (tie : IsAntisymmetric inst_cmp) (g : Graph) (old new : Memory) (result : Option Inst) → new.items ≡ old.items → new.fault ≡ old.fault → (result ≡ None → new.instances ≡ old.instances)
     → IfSome result (λ task. (state_at old.instances task ≡ Some Ready) × MovesOne old.instances new.instances task Running) → IsOf g old → IsOf g new
-claimed_is_of total tie g old new ready at (Some task) items fault some none claimed is = moved_is_of total tie old new task Ready Running claimed.0 claimed.1 items fault g is refl (λ a. refl) (λ a. refl)
-claimed_is_of total tie g old new ready at None items fault some none claimed is =
+claimed_is_of total tie g old new (Some task) items fault none claimed is = moved_is_of total tie old new task Ready Running claimed.0 claimed.1 items fault g is refl (λ a. refl) (λ a. refl)
+claimed_is_of total tie g old new None items fault none claimed is =
     subst (IsOf g) (sym same) is
   where
-    past : ready ≤ at
-    past = elim (cases_lt at ready) [ inl less ↦ absurd (false≢true (some less)) | inr more ↦ more ]
-
     same : new ≡ old
-    same j = record { items = items j; instances = (none past).1 j; fault = fault j }
+    same j = record { items = items j; instances = none refl j; fault = fault j }
+
+-- a claim that gives nothing changes nothing: its number was not below that of the ready instances
+pub none_below : {P : Type 0} (ready at : ℕ) (result : Option Inst) → (at < ready → IsSome result) → (ready ≤ at → (result ≡ None) × P) → result ≡ None → P
+none_below ready at result some none is = elim (cases_lt at ready) [ inl less ↦ absurd (false≢true (sym (ap is_some is) ∙ some less)) | inr more ↦ (none more).1 ]
 
 pub without_fault : (fault : Option (Inst × FaultKind)) → is_some fault ≡ false → (i : Inst) (kind : FaultKind) → is_fault fault i kind ≡ false
 without_fault None is i kind = refl

@@ -45,6 +45,7 @@ mod status;
 mod taking;
 mod tally;
 mod tasks;
+mod tickets;
 mod turns;
 mod waking;
 mod working;

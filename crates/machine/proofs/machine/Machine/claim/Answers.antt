@@ -7,7 +7,7 @@ use Rattle.instances.specs.declared.state.State.TheVariants.{Ready, Running}
 use Rattle.machine.specs.declared.memory.Memory.{Memory}
 use Rattle.machine.specs.Machine.{Machine, Moves, facts, state_of}
 use Rattle.machine.proofs.Worked.{no_fault_there}
-use Rattle.machine.proofs.Parked.{claimed_is_of, claim_tells, without_fault}
+use Rattle.machine.proofs.Parked.{claimed_is_of, claim_tells, none_below, without_fault}
 use Rattle.machine.proofs.machine.Machine.claim.Goals as goal
 
 pub returns-then-is_some-clause-some : goal.returns-then-is_some-clause-some
@@ -19,7 +19,7 @@ pub invariant_of-self : goal.invariant_of-self
 invariant_of-self c =
     let old = c.self.inside.memory in
     let new : Memory = record { items = old.items; instances = c.claim.new.self; fault = old.fault } in
-    (claimed_is_of c.orders_are_total.ensures.instances c.orders_are_total.ensures.instances_tie c.self.inside.graph.value old new (total is_ready old.instances) c.args.at c.claim.result refl refl c.claim.ensures.some c.claim.ensures.none c.claim.ensures.claimed c.self.invariant.0, c.self.invariant.1)
+    (claimed_is_of c.orders_are_total.ensures.instances c.orders_are_total.ensures.instances_tie c.self.inside.graph.value old new c.claim.result refl refl (none_below (total is_ready old.instances) c.args.at c.claim.result c.claim.ensures.some c.claim.ensures.none) c.claim.ensures.claimed c.self.invariant.0, c.self.invariant.1)
 
 pub returns-clause-claimed : goal.returns-clause-claimed
 returns-clause-claimed c =
