@@ -1,11 +1,13 @@
 -- Instances that are claimed, parked and given back.
-use Rattle.std.specs.Prelude.{◌≡◌, ◌⊎◌, ◌<◌, ◌-◌, ◌^◌, min, max, ℕ, false, true, List, Option, None, Some, Result, IfOk, IfErr, IfSome, IsSome, IsErrOf, OnOk, OnErr}
+use Rattle.std.specs.Prelude.{◌≡◌, ◌⊎◌, ◌↔◌, ◌<◌, ◌≤◌, ◌-◌, ◌^◌, min, max, ℕ, Bool, false, true, List, Option, None, Some, Result, Ok, IfOk, IfErr, IfSome, IsSome, IsErrOf, OnOk, OnErr}
 use Rattle.terms.specs.declared.name.Addr.{Addr}
 use Rattle.terms.specs.declared.name.Inst.{Inst}
 use Rattle.terms.specs.declared.put.Put.{Put}
 use Rattle.graph.specs.Fits.{HasNoFault, IsAbsent}
 use Rattle.instances.specs.declared.state.State.{State}
 use Rattle.instances.specs.declared.state.State.TheVariants.{Ready, Running, Waiting}
+use Rattle.instances.specs.declared.ticket.Ticket.{Ticket}
+use Rattle.instances.specs.Tickets.{HandsOut}
 use Rattle.steplang.specs.Running.{Asking}
 use Rattle.machine.specs.Machine.{HasItem}
 use Rattle.machine.specs.Machine as machine
@@ -84,6 +86,22 @@ pub record Claims {D : Type 0} (old new : Core D) (at : ℕ) (result : Result (O
   pub some : IfOk result (λ claimed. MayClaim old at → IsSome claimed)
   pub claimed : IfOk result (λ claimed. IfSome claimed (λ task. MayClaim old at × (state_of old task ≡ Some Ready) × Moves old new task Running))
   pub none : IfOk result (λ claimed. (is_halted old ≡ false) × (claimed ≡ None → new ≡ old))
+  pub err : OnErr result (IsHalted old new result)
+
+-- Ready instances are handed out as tickets, under numbers that were not drawn before, and nothing else changes; it is said whether the last number was drawn. At an error no
+-- ticket is added: the core is halted, or memory was refused.
+pub record TakesTickets {D : Type 0} (old new : Core D) (before after : ℕ) (had has : List Ticket) (result : Result Bool CoreError) : Type 0 where
+  pub same : new ≡ old
+  pub ok : IfOk result (λ over. (is_halted old ≡ false) × HandsOut old.machine.memory.instances before after had has × ((over ≡ true) ↔ (after ≡ 2 ^ 64)))
+  pub none : OnErr result ((after ≡ before) × (has ≡ had))
+  pub err : IfErr result (λ error. ((is_halted old ≡ true) × (error ≡ Store Halted)) ⊎ ((is_halted old ≡ false) × (error ≡ Store NoMemory)))
+
+-- The instance of a ticket runs, if one may be claimed and the ticket stands for it. Otherwise nothing changes, and the ticket is spent, or comes back where the allowance is used up.
+pub record ClaimsBy {D : Type 0} (old new : Core D) (ticket : Ticket) (result : Result (Result (Option Inst) Ticket) CoreError) : Type 0 where
+  pub inst : IfOk result (λ answer. IfOk answer (λ claimed. IfSome claimed (λ task. task ≡ ticket.inst)))
+  pub claimed : IfOk result (λ answer. IfOk answer (λ claimed. IfSome claimed (λ task. MayClaim old 0 × (state_of old task ≡ Some Ready) × Moves old new task Running)))
+  pub none : IfOk result (λ answer. (is_halted old ≡ false) × (answer ≡ Ok None → new ≡ old))
+  pub back : IfOk result (λ answer. IfErr answer (λ back. (back ≡ ticket) × (old.allowance ≤ running_count old) × (new ≡ old)))
   pub err : OnErr result (IsHalted old new result)
 
 -- The instance waits, or is ready if the item is there by now; if the park is refused, it is ready.

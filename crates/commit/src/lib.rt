@@ -28,6 +28,7 @@ mod runs;
 mod said_items;
 mod status;
 mod steps;
+mod tickets;
 mod turning;
 mod verdict;
 
