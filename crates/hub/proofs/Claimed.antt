@@ -38,19 +38,27 @@ not_done : {D : Type 0} (c : Core D) (task : Inst) → KeepsMachine c.machine �
 not_done c task kept ready false is = is
 not_done c task kept ready true is = absurd (true≢false (sym (ap is_done ((kept.done task).1 is)) ∙ ap is_done ready))
 
+-- so it may be ended
+pub may_end : {D : Type 0} (opening : Opening) (history : List Made) (before now : Known) (c : Core D) (task : Inst) → KeepsMachine c.machine → IsBehind opening (commits history) c
+    → Shows history before now → state_of c task ≡ Some state.Ready → MayEnd opening.graph (facts_behind opening now.seen) task
+may_end opening history before now c task kept behind shows ready =
+    let known : core.facts c ≡ facts_behind opening now.seen = known_state opening history before now c behind shows in
+    subst (λ (here : Graph × Facts). MayEnd here.0 here.1 task) (λ i. (behind.graph i, known i)) (record {
+      of_graph = instance_is_of c.machine kept task (ap is_some ready);
+      prescribed = (kept.prescribed task).0 (ap is_some ready);
+      not_done = not_done c task kept ready (core.facts c (done task)) refl;
+    })
+
+-- and run, if the store has no fault
+pub may_run_one : {D : Type 0} (opening : Opening) (history : List Made) (before now : Known) (c : Core D) (task : Inst) → KeepsMachine c.machine → IsBehind opening (commits history) c
+    → Shows history before now → HasNoFault (core.facts c) → state_of c task ≡ Some state.Ready → MayRun opening now task
+may_run_one opening history before now c task kept behind shows working ready =
+    record { working = subst HasNoFault (known_state opening history before now c behind shows) working; may_end = may_end opening history before now c task kept behind shows ready }
+
 pub may_run : {D : Type 0} (opening : Opening) (history : List Made) (before now : Known) (at : ℕ) (old new : Core D) (result : Result (Option Inst) CoreError) → KeepsMachine old.machine → IsBehind opening (commits history) old
     → Shows history before now → Claims old new at result → IfOk result (λ claimed. IfSome claimed (MayRun opening now))
 may_run opening history before now at old new (Ok None) kept behind shows claims = tt
-may_run opening history before now at old new (Ok (Some task)) kept behind shows claims =
-    let ready : state_of old task ≡ Some state.Ready = claims.claimed.1 in
-    let known : core.facts old ≡ facts_behind opening now.seen = known_state opening history before now old behind shows in record {
-      working = subst HasNoFault known claims.claimed.0.working;
-      may_end = subst (λ (here : Graph × Facts). MayEnd here.0 here.1 task) (λ i. (behind.graph i, known i)) (record {
-        of_graph = instance_is_of old.machine kept task (ap is_some ready);
-        prescribed = (kept.prescribed task).0 (ap is_some ready);
-        not_done = not_done old task kept ready (core.facts old (done task)) refl;
-      });
-    }
+may_run opening history before now at old new (Ok (Some task)) kept behind shows claims = may_run_one opening history before now old task kept behind shows claims.claimed.0.working claims.claimed.1
 may_run opening history before now at old new (Err error) kept behind shows claims = tt
 
 pub moves_claimed : {D : Type 0} (old new : Core D) (at : ℕ) (claimed : Option Inst) (task : Inst) → claimed ≡ Some task

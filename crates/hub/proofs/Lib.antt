@@ -1,6 +1,7 @@
 pub mod States
 pub mod Keeping
 pub mod Telling
+pub mod Ticketed
 pub mod Ended
 pub mod Claimed
 pub mod Finished

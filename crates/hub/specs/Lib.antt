@@ -8,3 +8,4 @@ pub mod Both
 pub mod Running
 pub mod Batches
 pub mod Claims
+pub mod Tickets

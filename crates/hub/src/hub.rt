@@ -78,7 +78,7 @@ impl<J: Naming, D: Disk> Hub<J, D> {
     }
 
     // Takes the lock.
-    fn locked<R: Wait>(&self, rt: &R) -> MutexGuard<'_, Kept<J, D>> {
+    pub(crate) fn locked<R: Wait>(&self, rt: &R) -> MutexGuard<'_, Kept<J, D>> {
         for _ in 0..LOOKS {
             if let Some(kept) = self.kept.try_lock() {
                 return kept;

@@ -5,7 +5,7 @@ use crate::{EnvPass, TaskError, WorkPass};
 use cells::{Filler, Fillers, Watch};
 use commit::{Committed, Core, CoreError, Outcome};
 use disk::Disk;
-use instances::Task;
+use instances::{Numbers, Task};
 use machine::results_are_meant;
 use passes::{Board, Desk, Naming};
 use std::alloc::AllocError;
@@ -25,6 +25,8 @@ pub struct Kept<J: Naming, D: Disk> {
     pub(crate) core: Core<D>,
     pub(crate) desk: Desk<J>,
     pub(crate) fillers: Fillers,
+    // The numbers of its tickets.
+    pub(crate) numbers: Numbers,
 }
 
 impl<J: Naming, D: Disk + Drop> Drop for Kept<J, D> {
@@ -34,6 +36,7 @@ impl<J: Naming, D: Disk + Drop> Drop for Kept<J, D> {
             core: _,
             desk: _,
             fillers: _,
+            numbers: _,
         } = self;
     }
 }
@@ -88,6 +91,7 @@ impl<J: Naming, D: Disk> Kept<J, D> {
             core,
             desk,
             fillers: _,
+            numbers: _,
         } = self;
         (core, desk)
     }

@@ -17,9 +17,11 @@ mod hub;
 mod kept;
 mod kept_batch;
 mod kept_claims;
+mod kept_tickets;
 mod open;
 mod pass;
 mod running;
+mod tickets;
 mod visit;
 mod visits;
 

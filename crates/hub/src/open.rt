@@ -8,6 +8,7 @@ use crate::{EnvPass, Hub, Kept, WorkPass};
 use cells::Fillers;
 use commit::Core;
 use disk::Disk;
+use instances::Numbers;
 use passes::{Blank, Naming, deal};
 use std::alloc::Global;
 use std::sync::{Arc, Mutex};
@@ -60,6 +61,8 @@ impl<J: Naming, D: Disk> Hub<J, D> {
         let Ok(graph) = Arc::clone(core.graph()) else {
             return Err(NotOpened { core, blank });
         };
+        let mut core = core;
+        core.recall();
         let (board, mut desk) = blank.open::<J>();
         deal(&board, &mut desk, &mut envs, 0, env_count);
         deal(&board, &mut desk, &mut workers, env_count, worker_count);
@@ -69,6 +72,7 @@ impl<J: Naming, D: Disk> Hub<J, D> {
                 core,
                 desk,
                 fillers: Fillers::new(alloc),
+                numbers: Numbers::new(),
             }),
             graph,
             count: env_count as usize + worker_count as usize,

@@ -94,7 +94,7 @@ pub(crate) fn exchange<'a, J: Naming, D: Disk, R: Wait>(
     }
 }
 
-// Claims the next instances, no more than the hand has room for. What is refused here is asked for again by the next claim.
+// Claims the next instances, no more than the hand has room for, unless they are claimed by tickets. What is refused here is asked for again by the next claim.
 fn claim_next<J: Naming, D: Disk>(
     visit: &mut Visit<'_, J, D>,
     pass: &mut WorkPass<J>,
@@ -103,6 +103,9 @@ fn claim_next<J: Naming, D: Disk>(
     requires { IsHand J.opening pass.old.seen hand.old }
     ensures { IsHand J.opening pass.new.seen hand.new }
 {
+    if hand.pace.shares() {
+        return;
+    }
     let most = hand.pace.most_kept().saturating_sub(hand.claimed.len());
     let _ = visit.claim_some(pass, &mut hand.claimed, most);
 }

@@ -8,6 +8,7 @@ ghost use Rattle.pool.specs.Worked.{HasTheSame, IsHand};
 
 use crate::pace::Pace;
 use crate::settling::settled;
+use crate::shelf::Shelf;
 use crate::waiting::Waiting;
 use crate::worker::{FEW, MOST_KEPT};
 use commit::{Batch, CoreError};
@@ -27,6 +28,8 @@ pub(crate) struct Hand<'a> {
     pub(crate) waiting: Waiting<'a>,
     /// What it remembers of the bodies that it ran, and of what others did.
     pub(crate) pace: Pace,
+    // Its tickets, and those of others.
+    shelf: Shelf<'a>,
     // Of the results that are kept, how many it has looked at for instances that wait for their items.
     looked: usize,
     // Whether it claims one instance before it goes on, since one has begun to wait.
@@ -41,7 +44,7 @@ pub(crate) struct Hand<'a> {
 
 impl<'a> Hand<'a> {
     /// A hand that has claimed nothing and keeps nothing.
-    pub(crate) fn empty(alloc: Global) -> Result<Hand<'a>, AllocError>
+    pub(crate) fn empty(alloc: Global, shelf: Shelf<'a>) -> Result<Hand<'a>, AllocError>
         ensures { IfOk result (λ hand. (hand.claimed ≡ []) × (hand.waiting.places.items ≡ [])) }
     {
         let claimed = Tasks::with_room(alloc, MOST_KEPT)?;
@@ -49,6 +52,7 @@ impl<'a> Hand<'a> {
             claimed,
             waiting: Waiting::none(alloc),
             pace: Pace::new(),
+            shelf,
             looked: 0,
             stuck: false,
             tried: false,
@@ -108,8 +112,8 @@ impl<'a> Hand<'a> {
         self.claimed.len().saturating_add(kept).saturating_add(1)
     }
 
-    /// The next instance to run, if there is one: it was claimed before, or is now, with others. Says whether an instance runs then. After
-    /// a body that took long, what was claimed before it is given back, so that others can run it, and one instance is claimed alone. If the worker keeps
+    /// The next instance to run, if there is one: it was claimed before, or is now, by a ticket or with others. Says whether an instance runs then. After
+    /// a body that took long, what was claimed before it is given back, so that others can run it. If the worker keeps
     /// `FEW` results or more and fewer instances seem to be ready, or some and none seems to be, it claims those that wait for what it keeps; if there are none, the results are
     /// committed first.
     pub(crate) fn next<J: Naming, D: Disk, R: Wait>(
@@ -126,10 +130,9 @@ impl<'a> Hand<'a> {
         ensures refused { IfErr result RefusesClaims }
     {
         let count = count_of(kept);
-        let pace = self.pace;
-        if pace.is_slow() {
+        if self.pace.is_slow() {
             self.give_back(rt, hub, pass);
-            return self.claim(rt, hub, pass, 1);
+            return self.claim_next(rt, hub, pass, 1);
         }
         if self.chases {
             self.chase(rt, hub, pass, kept)?;
@@ -137,8 +140,33 @@ impl<'a> Hand<'a> {
         match self.take_next(pass) {
             Some(task) => Ok((Some(task), true)),
             None if commits_first(count, hub.ready()) => self.claim_waiting(rt, hub, pass, kept),
-            None => self.claim(rt, hub, pass, pace.most(count)),
+            None => self.claim_next(rt, hub, pass, self.pace.most(count)),
         }
+    }
+
+    // Claims the next instance: by a ticket of its own, if it has one; where bodies of late took longer than a visit of the lock by far, by a ticket of another worker, or a new one; else with
+    // others, up to `most`.
+    fn claim_next<J: Naming, D: Disk, R: Wait>(
+        &mut self,
+        rt: &R,
+        hub: &Hub<J, D>,
+        pass: &mut WorkPass<J>,
+        most: usize,
+    ) -> Result<(Option<Task>, bool), CoreError>
+        requires { IsHand J.opening pass.old.seen self.old }
+        ensures hand { IsHand J.opening pass.new.seen self.new }
+        ensures task { IfOk result (λ next. IfSome next.0 (InstanceIsOf J.opening.graph)) }
+        ensures ahead { IsPrefix pass.old.seen pass.new.seen }
+        ensures refused { IfErr result RefusesClaims }
+    {
+        let shares = self.pace.shares();
+        if let Some(task) = self.shelf.claim(rt, hub, pass, shares)? {
+            return Ok((Some(task), true));
+        }
+        if shares && !self.shelf.over {
+            return Ok((None, hub.busy(rt, pass)));
+        }
+        self.claim(rt, hub, pass, most)
     }
 
     // Claims what waits for what is kept; or, after an instance has begun to wait, one that is ready.
@@ -300,6 +328,21 @@ impl<'a> Hand<'a> {
         }
     }
 
+    /// Leaves what it has tickets for to others, and gives back what it has claimed and not begun.
+    pub(crate) fn leave<J: Naming, D: Disk, R: Wait>(
+        &mut self,
+        rt: &R,
+        hub: &Hub<J, D>,
+        pass: &mut WorkPass<J>,
+    )
+        requires { IsHand J.opening pass.old.seen self.old }
+        ensures hand { IsHand J.opening pass.new.seen self.new }
+        ensures ahead { IsPrefix pass.old.seen pass.new.seen }
+    {
+        self.shelf.leave(rt, hub);
+        self.give_back(rt, hub, pass);
+    }
+
     /// Lets go of it, once nothing is claimed.
     pub(crate) fn end(self)
         requires { self.claimed ≡ [] }
@@ -308,6 +351,7 @@ impl<'a> Hand<'a> {
             claimed,
             waiting,
             pace: _,
+            shelf: _,
             looked: _,
             stuck: _,
             tried: _,

@@ -2,7 +2,8 @@
 //! workers, or the calling thread alone.
 //!
 //! `drive` opens a hub round the core, with a pass for each worker, and closes it when they have ended. A worker claims
-//! an instance, asks its probe, runs the body outside the lock, and commits the end, or lets the instance wait. What is
+//! an instance, asks its probe, runs the body outside the lock, and commits the end, or lets the instance wait. Where bodies take long it claims by tickets, which
+//! stand in a deque of its own, and from which workers that have nothing to do steal; else it claims several instances at once. What is
 //! committed is a sequence of legal ends, whichever worker made them and in whatever order. The layer above needs no
 //! more (`RunsWithin` of `commit`).
 #![tactic(auto)]
@@ -17,6 +18,7 @@ mod probe;
 mod resuming;
 mod running;
 mod settling;
+mod shelf;
 mod team;
 mod waiting;
 mod worker;

@@ -26,6 +26,9 @@ const HEAVY_WORK: u32 = SPAN * LIGHT;
 // The greatest sum: after it some 180 empty bodies make a worker's bodies light.
 const MOST_WORK: u32 = 16 * HEAVY_WORK;
 
+// The sum from which on bodies of late took so long, some five microseconds or more, that a visit of the lock for each of them is small beside them.
+const SHARED_WORK: u32 = MOST_WORK - MOST_WORK / 8;
+
 // The sum before the first body: some eight empty bodies make them light.
 const FIRST_WORK: u32 = HEAVY_WORK + HEAVY_WORK / 8;
 
@@ -195,6 +198,11 @@ impl Pace {
     /// Whether the last body took long.
     pub(crate) fn is_slow(&self) -> bool {
         self.slow
+    }
+
+    /// Whether it claims one instance after another, by tickets that others may steal: since its bodies take long, or none has run yet.
+    pub(crate) fn shares(&self) -> bool {
+        self.slow || self.work >= SHARED_WORK
     }
 
     /// Whether what is kept has more than `FEW_PUTS` puts: then bodies do not look for items there.

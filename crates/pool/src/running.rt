@@ -127,7 +127,7 @@ fn leave<'a, J: Naming, D: Disk, R: Wait>(
     facts_are_told_apart();
     facts_go_on();
     results_are_meant();
-    hand.give_back(rt, hub, pass);
+    hand.leave(rt, hub, pass);
     let _ = settled(rt, hub.release(rt, pass, task));
     goes_on_unless(commit_kept(rt, hub, pass, kept))
 }

@@ -7,12 +7,14 @@ ghost use Rattle.pool.specs.declared.worker.Met.TheVariants.{Asked as MetAsked, 
 ghost use Rattle.pool.specs.Worked.{OneSawFull, WorksOn};
 
 use crate::Probe;
+use crate::shelf::Shelf;
 use crate::worker::{AsProbed, Ended, Met, work};
 use commit::Core;
+use deques::{Deque, Thief};
 use disk::Disk;
 use hub::{Hub, WorkPass, hubs_cross};
 use passes::{Blank, Naming};
-use std::alloc::Global;
+use std::alloc::{AllocError, Global};
 use std::marker::PhantomData;
 use std::sync::Wait;
 use std::thread::{PromisedHandle, Scope, Threads, scope, scope_env};
@@ -85,6 +87,15 @@ struct Back<J: Naming> {
     causes: Causes,
 }
 
+// What the workers are given: to each a pass and a deque, and to all of them handles on all deques.
+#[derive(Drop)]
+struct CrewOf<'x, J: Naming> {
+    workers: Vec<WorkPass<J>>,
+    deques: Vec<Deque>,
+    thieves: &'x [Thief],
+    ghost paired: { vec_len deques ≡ vec_len workers },
+}
+
 // The threads that were started; and the passes of those that were not started, and of the thread that started them.
 struct Started<J: Naming, P: Probe> {
     handles: Vec<PromisedHandle<Ended<J>, AsProbed<P>>>,
@@ -118,14 +129,36 @@ pub(crate) fn run_team<
     let Ok(()) = passes.reserve(workers as usize + 1) else {
         return (core, Causes::memory());
     };
+    let Ok((deques, thieves)) = deques_for(alloc, workers) else {
+        return (core, Causes::memory());
+    };
     let (hub, envs, mut work_passes) = match Hub::<J, D>::open(alloc, core, blank) {
         Ok(opened) => opened,
         Err(not_opened) => return (not_opened.into_core(), Causes::memory()),
     };
     let boss = work_passes.pop().unwrap();
-    let back = in_threads(rt, alloc, &hub, probe, boss, work_passes, handles, passes);
+    let crew = CrewOf {
+        workers: work_passes,
+        deques,
+        thieves: thieves.as_slice(),
+    };
+    let back = in_threads(rt, alloc, &hub, probe, boss, crew, handles, passes);
     let core = hub.close_when_idle(rt, envs, back.passes);
     (core, back.causes)
+}
+
+// An empty deque for each worker, and a handle on each, from which the others steal.
+fn deques_for(alloc: Global, workers: u8) -> Result<(Vec<Deque>, Vec<Thief>), AllocError>
+    ensures { IfOk result (λ both. vec_len both.0 ≡ workers) }
+{
+    let mut deques = Vec::new(alloc);
+    let mut thieves = Vec::new(alloc);
+    for _ in 0..workers {
+        let deque = Deque::new(alloc)?;
+        thieves.push(deque.thief()?)?;
+        deques.push(deque)?;
+    }
+    Ok((deques, thieves))
 }
 
 // Runs a worker with each of these passes, each in its own thread, until all have ended.
@@ -141,11 +174,11 @@ fn in_threads<
     hub: &'x Hub<J, D>,
     probe: &'x P,
     boss: WorkPass<J>,
-    workers: Vec<WorkPass<J>>,
+    crew: CrewOf<'x, J>,
     handles: Vec<PromisedHandle<Ended<J>, AsProbed<P>>>,
     passes: Vec<WorkPass<J>>,
 ) -> Back<J>
-    requires room { (vec_len workers + vec_len handles ≤ vec_capacity handles) × (vec_len workers + vec_len handles + vec_len passes + 1 ≤ vec_capacity passes) }
+    requires room { (vec_len crew.workers + vec_len handles ≤ vec_capacity handles) × (vec_len crew.workers + vec_len handles + vec_len passes + 1 ≤ vec_capacity passes) }
     ensures asked { result.causes.asked ≡ true → P.may_stop ≡ true }
     ensures full { result.causes.full ≡ true → OneSawFull J.opening result.passes.items }
 {
@@ -153,10 +186,10 @@ fn in_threads<
         scope_env(),
         rt,
         move |scope| -> Back<J>
-            requires { (vec_len workers + vec_len handles ≤ vec_capacity handles) × (vec_len workers + vec_len handles + vec_len passes + 1 ≤ vec_capacity passes) }
+            requires { (vec_len crew.workers + vec_len handles ≤ vec_capacity handles) × (vec_len crew.workers + vec_len handles + vec_len passes + 1 ≤ vec_capacity passes) }
             ensures { (result.causes.asked ≡ true → P.may_stop ≡ true) × (result.causes.full ≡ true → OneSawFull J.opening result.passes.items) }
         {
-            let started = start(scope, rt, alloc, hub, probe, boss, workers, handles, passes);
+            let started = start(scope, rt, alloc, hub, probe, boss, crew, handles, passes);
             join_all(rt, started)
         },
     )
@@ -178,23 +211,30 @@ fn start<
     hub: &'e Hub<J, D>,
     probe: &'e P,
     mut boss: WorkPass<J>,
-    mut workers: Vec<WorkPass<J>>,
+    crew: CrewOf<'e, J>,
     mut handles: Vec<PromisedHandle<Ended<J>, AsProbed<P>>>,
     mut passes: Vec<WorkPass<J>>,
 ) -> Started<J, P>
-    requires room { (vec_len workers + vec_len handles ≤ vec_capacity handles) × (vec_len workers + vec_len handles + vec_len passes + 1 ≤ vec_capacity passes) }
+    requires room { (vec_len crew.workers + vec_len handles ≤ vec_capacity handles) × (vec_len crew.workers + vec_len handles + vec_len passes + 1 ≤ vec_capacity passes) }
     ensures room { vec_len result.handles + vec_len result.passes ≤ vec_capacity result.passes }
 {
     hubs_cross::<J, D>();
+    let CrewOf {
+        mut workers,
+        mut deques,
+        thieves,
+    } = crew;
     let mut no_thread = false;
     while let Some(pass) = workers.pop() {
+        let own = deques.pop().unwrap();
+        let number = pass.number();
         if no_thread {
             passes.push_reserved(pass);
         } else {
-            match scope.spawn_with(
-                AsProbed { of: PhantomData },
-                move || work(rt, alloc, hub, pass, probe),
-            ) {
+            match scope.spawn_with(AsProbed { of: PhantomData }, move || {
+                let shelf = Shelf::new(alloc, own, thieves, number);
+                work(rt, alloc, hub, pass, shelf, probe)
+            }) {
                 Ok(handle) => handles.push_reserved(handle),
                 Err(refused) => {
                     // The worker was given back. It is run here, and ends at once, since a stop was asked for.

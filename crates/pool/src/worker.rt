@@ -11,6 +11,7 @@ use crate::hand::Hand;
 use crate::pace::Pace;
 use crate::running::run_task;
 use crate::settling::stopped_by;
+use crate::shelf::Shelf;
 use commit::Batch;
 use disk::Disk;
 use hub::{Hub, WorkPass};
@@ -84,12 +85,13 @@ pub(crate) fn work<J: Naming, D: Disk, P: Probe, R: Wait>(
     alloc: Global,
     hub: &Hub<J, D>,
     mut pass: WorkPass<J>,
+    shelf: Shelf<'_>,
     probe: &P,
 ) -> Ended<J>
     ensures asked { result.met ≡ Some MetAsked → P.may_stop ≡ true }
     ensures full { Justifies J.opening result.met result.pass }
 {
-    let met = run_all(rt, alloc, hub, &mut pass, probe);
+    let met = run_all(rt, alloc, hub, &mut pass, shelf, probe);
     if met.is_some() {
         hub.ask_stop(&mut pass);
     }
@@ -102,12 +104,13 @@ fn run_all<J: Naming, D: Disk, P: Probe, R: Wait>(
     alloc: Global,
     hub: &Hub<J, D>,
     pass: &mut WorkPass<J>,
+    shelf: Shelf<'_>,
     probe: &P,
 ) -> Option<Met>
     ensures asked { result ≡ Some MetAsked → P.may_stop ≡ true }
     ensures full { Justifies J.opening result pass.new }
 {
-    let mut hand = match Hand::empty(alloc) {
+    let mut hand = match Hand::empty(alloc, shelf) {
         Ok(hand) => hand,
         Err(_) => return Some(Met::NoMemory),
     };
@@ -196,7 +199,7 @@ fn give_way<'a, J: Naming, D: Disk, R: Wait>(
     facts_are_told_apart();
     facts_go_on();
     results_are_meant();
-    hand.give_back(rt, hub, pass);
+    hand.leave(rt, hub, pass);
     let met = commit_kept(rt, hub, pass, kept);
     let before = hub.batches();
     hub.nap(rt, (pass.number() as u64).saturating_add(1));

@@ -11,6 +11,7 @@ mod rows;
 mod stores;
 mod strangers;
 mod task;
+mod tickets;
 mod twice;
 mod watched;
 mod watches;
@@ -32,6 +33,8 @@ fn main(rt: HostRuntime) -> Result<(), Error> {
     try_row(&rt, Row::TaskOut, 1)?;
     println!(rt; "an instance is claimed by its number, and waits")?;
     try_row(&rt, Row::Claims, 1)?;
+    println!(rt; "two instances are claimed by tickets, and one may run at a time")?;
+    try_row(&rt, Row::Tickets, 1)?;
     println!(rt; "a task of another hub is finished")?;
     strangers::try_foreign(&rt)?;
     println!(rt; "a put is within its sync")?;

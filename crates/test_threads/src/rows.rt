@@ -5,6 +5,7 @@ use crate::claims::by_number;
 use crate::handles::Handles;
 use crate::stores::{bytes, created, fib, number};
 use crate::task::{keep, release};
+use crate::tickets::by_ticket;
 use anyhow::{Error, bail};
 use commit::{Core, CoreError};
 use disk::{Disk, MemDisk};
@@ -31,6 +32,8 @@ pub(crate) enum Row {
     TaskOut,
     /// An instance is claimed by its number, and waits.
     Claims,
+    /// Two instances are claimed by tickets, and one may run at a time.
+    Tickets,
 }
 
 /// Tries a row on a new store in memory.
@@ -44,7 +47,10 @@ fn try_on<D: Disk + Drop + Send, R: Handles>(
     row: Row,
     passes: u8,
 ) -> Result<(), Error> {
-    let core = created(rt.alloc(), disk)?;
+    let mut core = created(rt.alloc(), disk)?;
+    if let Row::Tickets = row {
+        core.allow(1)?;
+    }
     let blank = Blank::new(rt.alloc(), passes, 1)?;
     let core = try_as::<Brand, D, R>(rt, core, blank, row)?;
     println!(rt;
@@ -72,7 +78,7 @@ fn try_as<J: Naming + Send + Sync, D: Disk + Drop + Send, R: Handles>(
         Row::Together => together(rt, hub, envs, workers),
         Row::PassMissing => pass_missing(rt, hub, envs, workers),
         Row::TaskOut => task_out(rt, hub, envs, workers),
-        Row::Claims => claims(rt, hub, envs, workers),
+        Row::Claims | Row::Tickets => claims(rt, hub, envs, workers, row),
     }
 }
 
@@ -116,13 +122,14 @@ fn put_and_ask<J: Naming, D: Disk, R: Handles>(
     Ok(())
 }
 
-// ---- an instance that waits
+// ---- instances that are claimed by number, or by ticket
 
 fn claims<J: Naming, D: Disk + Drop, R: Handles>(
     rt: &R,
     hub: Hub<J, D>,
     mut envs: Vec<EnvPass<J>>,
     mut workers: Vec<WorkPass<J>>,
+    row: Row,
 ) -> Result<Core<D>, Error> {
     let (Some(env), Some(worker)) = (
         envs.as_mut_slice().first_mut(),
@@ -130,7 +137,10 @@ fn claims<J: Naming, D: Disk + Drop, R: Handles>(
     ) else {
         bail!("no pass")
     };
-    by_number(rt, &hub, env, worker)?;
+    match row {
+        Row::Tickets => by_ticket(rt, &hub, env, worker)?,
+        _ => by_number(rt, &hub, env, worker)?,
+    }
     closed(hub, envs, workers)
 }
 

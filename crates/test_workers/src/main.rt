@@ -2,6 +2,7 @@
 //! every schedule, unless a thread looks for another 10,000,000 times in vain.
 #![tactic(auto)]
 
+mod counting;
 mod meeting;
 mod rows;
 mod stopping;
@@ -26,6 +27,10 @@ fn main(rt: HostRuntime) -> Result<(), Error> {
         for workers in COUNTS {
             try_row(&rt, &rt, row, workers)?;
         }
+    }
+    rt.println("two hundred steps, none of which waits, with a probe that counts")?;
+    for workers in COUNTS {
+        counting::try_counting(&rt, &rt, workers)?;
     }
     rt.println("a run that may commit nothing")?;
     for workers in COUNTS {

@@ -117,6 +117,13 @@ fn sum(key: i64) -> Tag {
     }
 }
 
+/// The report of a store.
+pub(crate) fn report_of(alloc: Global, core: &Core<MemDisk>) -> Result<Vec<u8>, Error> {
+    let mut text = Vec::new(alloc);
+    write_report(alloc, core, &mut text)?;
+    Ok(text)
+}
+
 /// Prints the verdict of a run, how many bytes the file A has, and the last lines of the report.
 pub(crate) fn tell(
     rt: &HostRuntime,
@@ -125,9 +132,7 @@ pub(crate) fn tell(
     verdict: Result<Verdict, RunError>,
     lines: usize,
 ) -> Result<(), Error> {
-    let alloc = rt.alloc();
-    let mut text = Vec::new(alloc);
-    write_report(alloc, &core, &mut text)?;
+    let text = report_of(rt.alloc(), &core)?;
     let text = str::from_utf8(text.as_slice()).unwrap_or("");
     let all = text.lines().count();
     let bytes = core.into_disk().len(Side::A)?;
@@ -146,9 +151,7 @@ pub(crate) fn tell_within(
     least: u64,
     most: u64,
 ) -> Result<(), Error> {
-    let alloc = rt.alloc();
-    let mut text = Vec::new(alloc);
-    write_report(alloc, &core, &mut text)?;
+    let text = report_of(rt.alloc(), &core)?;
     let text = str::from_utf8(text.as_slice()).unwrap_or("");
     let all = text.lines().count();
     let bytes = core.into_disk().len(Side::A)?;
