@@ -130,7 +130,8 @@ impl<'a> Hand<'a> {
         ensures refused { IfErr result RefusesClaims }
     {
         let count = count_of(kept);
-        if self.pace.is_slow() {
+        let pace = self.pace;
+        if pace.is_slow() {
             self.give_back(rt, hub, pass);
             return self.claim_next(rt, hub, pass, 1);
         }
@@ -140,7 +141,7 @@ impl<'a> Hand<'a> {
         match self.take_next(pass) {
             Some(task) => Ok((Some(task), true)),
             None if commits_first(count, hub.ready()) => self.claim_waiting(rt, hub, pass, kept),
-            None => self.claim_next(rt, hub, pass, self.pace.most(count)),
+            None => self.claim_next(rt, hub, pass, pace.most(count)),
         }
     }
 
@@ -163,7 +164,8 @@ impl<'a> Hand<'a> {
         if let Some(task) = self.shelf.claim(rt, hub, pass, shares)? {
             return Ok((Some(task), true));
         }
-        if shares && !self.shelf.over {
+        let waits = shares && !self.shelf.over;
+        if waits {
             return Ok((None, hub.busy(rt, pass)));
         }
         self.claim(rt, hub, pass, most)

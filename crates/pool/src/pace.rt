@@ -226,9 +226,15 @@ impl Pace {
         }
     }
 
-    /// Whether results that are kept are to be committed now, since others may have waited for them for long.
+    /// Whether results that are kept are to be committed now, since others may have waited for them for long. Where bodies are light and none misses an item, nobody waits: the others leave the
+    /// work to this worker.
     pub(crate) fn is_due(&self) -> bool {
-        self.spent >= LONG
+        let long = if self.calm >= CALM && self.work < HEAVY_WORK {
+            4 * LONG
+        } else {
+            LONG
+        };
+        self.spent >= long
     }
 
     /// How many instances it claims at once, if it keeps this number of results. A worker that gave back what it had claimed claims one, to see whether it can go on.

@@ -38,7 +38,7 @@ impl<'a> Shelf<'a> {
         Shelf {
             own,
             all,
-            first: number,
+            first: number.wrapping_add(1),
             fresh: Vec::new(alloc),
             stocked: false,
             over: false,

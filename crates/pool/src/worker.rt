@@ -80,12 +80,12 @@ const SPINS: u32 = 8;
 const PATIENCE: u32 = 1024;
 
 /// Runs instances until there is nothing to do, or a stop was asked for.
-pub(crate) fn work<J: Naming, D: Disk, P: Probe, R: Wait>(
+pub(crate) fn work<'a, J: Naming, D: Disk, P: Probe, R: Wait>(
     rt: &R,
     alloc: Global,
-    hub: &Hub<J, D>,
+    hub: &'a Hub<J, D>,
     mut pass: WorkPass<J>,
-    shelf: Shelf<'_>,
+    shelf: Shelf<'a>,
     probe: &P,
 ) -> Ended<J>
     ensures asked { result.met ≡ Some MetAsked → P.may_stop ≡ true }
@@ -99,12 +99,12 @@ pub(crate) fn work<J: Naming, D: Disk, P: Probe, R: Wait>(
 }
 
 // Runs them, and returns why the worker asks all to end, if it does.
-fn run_all<J: Naming, D: Disk, P: Probe, R: Wait>(
+fn run_all<'a, J: Naming, D: Disk, P: Probe, R: Wait>(
     rt: &R,
     alloc: Global,
-    hub: &Hub<J, D>,
+    hub: &'a Hub<J, D>,
     pass: &mut WorkPass<J>,
-    shelf: Shelf<'_>,
+    shelf: Shelf<'a>,
     probe: &P,
 ) -> Option<Met>
     ensures asked { result ≡ Some MetAsked → P.may_stop ≡ true }

@@ -34,6 +34,18 @@ returns-in_default-reserve-clause-works g c =
     nothing_done g.D.Disk (λ on. (c.stores_go_on.ensures.rest on).commits) (λ on. (c.stores_go_on.ensures.gates on).rest) c.args.core c.memory-in_default-reserve.result.full c.requires.working
     (c.is_kept.ensures.settled c.requires.working) c.is_kept.ensures.kept c.memory-in_default-reserve.ensures.2
 
+pub returns-in_default-deques_for-clause-works : goal.returns-in_default-deques_for-clause-works
+returns-in_default-deques_for-clause-works g c =
+    nothing_done g.D.Disk (λ on. (c.stores_go_on.ensures.rest on).commits) (λ on. (c.stores_go_on.ensures.gates on).rest) c.args.core c.memory-in_default-deques_for.result.full c.requires.working
+    (c.is_kept.ensures.settled c.requires.working) c.is_kept.ensures.kept c.memory-in_default-deques_for.ensures.2
+
+pub invariant_of-crew : goal.invariant_of-crew
+invariant_of-crew g c =
+    let opened = c.in-Ok-open.opened.2 in
+    let count : length opened.items ≡ c.args.workers + 1 = ap length c.in-Ok-open.ensures.ok.1 ∙ as_many c.args.blank.envs c.args.blank.workers ∙ c.requires.passes.1 in
+    let out = one_out c.pop.result (c.pop.ensures.variant.1 (omega (arith, count, opened.ok))) in
+    record { paired = omega (arith, c.in-Ok-deques_for.ensures, count, opened.ok, out, c.pop.ensures.len) }
+
 pub unwrap-boss-requires : goal.unwrap-boss-requires
 unwrap-boss-requires g c =
     let opened = c.in-Ok-open.opened.2 in
