@@ -1,4 +1,7 @@
 //! Instances that are claimed by tickets.
+ghost use Rattle.std.specs.Prelude.{IfOk, IfSome};
+ghost use Rattle.graph.specs.Fits.{InstanceIsOf};
+
 use crate::handles::Handles;
 use crate::stores::{fib, number};
 use crate::task::release;
@@ -92,7 +95,9 @@ fn claimed<J: Naming, D: Disk, R: Handles>(
     hub: &Hub<J, D>,
     worker: &mut WorkPass<J>,
     ticket: Ticket,
-) -> Result<Option<Task>, Error> {
+) -> Result<Option<Task>, Error>
+    ensures { IfOk result (λ claimed. IfSome claimed (InstanceIsOf J.opening.graph)) }
+{
     match hub.claim_by(rt, worker, ticket)? {
         Ok(task) => Ok(task),
         Err(_) => bail!("the ticket came back"),
@@ -155,7 +160,9 @@ fn ended<J: Naming, D: Disk, R: Handles>(
     hub: &Hub<J, D>,
     worker: &mut WorkPass<J>,
     task: Task,
-) -> Result<Committed, Error> {
+) -> Result<Committed, Error>
+    requires { InstanceIsOf J.opening.graph task }
+{
     match hub.run(rt, rt.alloc(), worker, &task, None) {
         Ok(Ran::Ended(outcome, _)) => match hub.finish(rt, worker, task, outcome) {
             Ok(committed) => Ok(committed),
