@@ -3,7 +3,7 @@ use Rattle.std.proofs.Common.{◌≡◌, ◌<◌, ◌+◌, ℕ, suc, ℤ, List, 
 use Rattle.std.specs.Prelude.{Result, Ok, Err}
 use Rattle.std.proofs.lemmas.List.{take_more_set}
 use Rattle.std.proofs.Math.Seq.{drop-cons}
-use Rattle.steptree.specs.declared.expression.Expression.{Expression}
+use Rattle.steptree.specs.Tree.{Expression}
 use Rattle.terms.specs.declared.fault.FaultKind.{FaultKind}
 use Rattle.steptree.specs.Values.{with_value, value_of, values_of}
 

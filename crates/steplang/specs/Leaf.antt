@@ -1,8 +1,7 @@
 -- Which expressions have operands, and which formulas more than two operations in a row.
-use Rattle.steptree.specs.declared.expression.Expression.{Expression}
+use Rattle.steptree.specs.Tree.{Expression, Number, Variable, Negation, Operation}
 use Rattle.steptree.specs.declared.code.Formula.{Formula}
 use Rattle.steptree.specs.declared.code.Formula.TheVariants as formula
-use Rattle.steptree.specs.Tree.{Number, Variable, Negation, Operation}
 
 abbrev pub IsDeep : Expression → Type 0
 IsDeep (Number number) = ⊥

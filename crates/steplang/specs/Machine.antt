@@ -1,9 +1,11 @@
 -- An instance while its code runs, seen as the outcome that is still to come.
-use Rattle.std.specs.Prelude.{◌≡◌, ℕ, ◌+◌, ◌-◌, ◌*◌, ◌<◌, ◌≤◌, ℤ, List, [], ◌∷◌, length, reverse}
+use Rattle.std.specs.Prelude.{◌≡◌, ℕ, ◌+◌, ◌-◌, ◌*◌, ◌<◌, ◌≤◌, ℤ, List, [], ◌∷◌, length, reverse, slice_get, slice_set, Some}
 use Rattle.steptree.specs.declared.body.TheConstants.{BUDGET}
+use Rattle.terms.specs.declared.put.Put.{Put}
 use Rattle.steptree.specs.declared.code.Instruction.{Instruction}
 use Rattle.steptree.specs.declared.code.Instruction.TheVariants as instruction
-use Rattle.steptree.specs.Run.{Read, State, Outcome, ends, faults, asks, assigned}
+use Rattle.steptree.specs.declared.code.Loop.{Loop}
+use Rattle.steptree.specs.Run.{Read, State, Outcome, ends, faults, asks, assigned, putting}
 use Rattle.steptree.specs.Executed.{carried_out, executed}
 use Rattle.steplang.specs.declared.machine.Step.{Step}
 use Rattle.steplang.specs.declared.machine.Step.TheVariants.{On, Asked, Failed, Ended}
@@ -26,6 +28,14 @@ outcome_from machine progress reads = outcome_of_state machine progress (state_o
 abbrev pub outcome_after : Instruction → Machine → Progress → List Read → Outcome
 outcome_after one machine progress reads = carried_out (executed (BUDGET - progress.counted) machine.code.now) (reverse machine.loops.items) one (state_of machine progress reads)
 
+-- what comes of a put that was counted, and after which the code goes on at `next`
+abbrev pub outcome_of_put : Put → ℕ → Machine → Progress → List Read → Outcome
+outcome_of_put put next machine progress reads = putting put (state_of machine progress reads) (executed (BUDGET - progress.counted) machine.code.now (reverse machine.loops.items) next)
+
+-- the variable gets the value: for any reads, the outcome that is to come now is the one from the state in which it has it
+abbrev pub GetsValue : ℕ → ℤ → Machine → Machine → Type 0
+GetsValue variable value old new = (reads : List Read) → outcome_from new new.progress reads ≡ outcome_of_state old old.progress (assigned variable value (state_of old old.progress reads))
+
 -- for any reads, the outcome `from` that was to come before a step is the outcome that comes after it
 abbrev pub LeadsFrom : (List Read → Outcome) → Step → Machine → Progress → Type 0
 LeadsFrom from On new progress = (reads : List Read) → from reads ≡ outcome_from new progress reads
@@ -33,6 +43,17 @@ LeadsFrom from (Asked variable) new progress = (from [] ≡ asks new.asked)
     × ((value : ℤ) (reads : List Read) → from ((new.asked, value) ∷ reads) ≡ outcome_of_state new progress (assigned variable value (state_of new progress reads)))
 LeadsFrom from (Failed kind) new progress = (reads : List Read) → from reads ≡ faults kind reads
 LeadsFrom from Ended new progress = (reads : List Read) → from reads ≡ ends (state_of new progress reads)
+
+-- the step carries out an instruction that was counted
+abbrev pub CarriesOut : Instruction → Machine → Progress → Machine → Progress → Step → Type 0
+CarriesOut one old before new after step = LeadsFrom (outcome_after one old before) step new after
+
+-- the loop that was opened last; and the loops with this one in its place
+abbrev pub IsInnermost : List Loop → Loop → Type 0
+IsInnermost loops innermost = slice_get loops (length loops - 1) ≡ Some innermost
+
+abbrev pub with_innermost : List Loop → Loop → List Loop
+with_innermost loops innermost = slice_set loops (length loops - 1) innermost
 
 -- an upper bound on the steps that are left: each statement counts one, and opens at most one loop
 abbrev pub left_of : Machine → Progress → ℕ

@@ -24,6 +24,10 @@ pub record Running : Type 0 where
   pub reads : List Read
   pub awaits : Awaits
 
+-- a run of this step for this instance, before it begins
+abbrev pub begun : Bor Checked → Inst → Running
+begun checked instance = record { checked = checked; instance = instance; reads = []; awaits = Nothing }
+
 -- a run that asks for an item: its step, its instance, what it has read, and the item
 pub record Asking : Type 0 where
   pub checked : Bor Checked

@@ -11,6 +11,10 @@ use Rattle.steplang.specs.Machine.{state_of, outcome_of_state, outcome_from}
 use Rattle.steplang.specs.Running as running
 use Rattle.steplang.specs.Running.{Awaits}
 
+-- before the first statement: along any reads the body and the machine have the same outcome
+abbrev pub IsStarted : Machine → Body → List ℤ → Type 0
+IsStarted machine body key = (reads : List Read) → outcome_of body key reads ≡ outcome_from machine machine.progress reads
+
 -- if it is ready: along any further reads the body and the machine have the same outcome
 abbrev pub IsReady : Stage → Body → List ℤ → List Read → Machine → Type 0
 IsReady stage body key reads machine = stage ≡ Ready → (more : List Read) → outcome_of body key (reads ++ more) ≡ outcome_from machine machine.progress more

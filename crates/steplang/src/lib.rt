@@ -5,13 +5,15 @@
 mod machine;
 mod outcome;
 mod parked;
+mod room;
 mod run;
 mod value;
 
 pub use outcome::{Bad, Given, Reads, Turn};
 pub use parked::Parked;
+pub use room::Room;
 pub use run::Run;
 pub use steptree::{
     Block, Body, CheckError, CheckFault, Checked, Components, Declared, Expression, Name,
-    NamedBlock, NamedExpression, NamedKey, Node, Operator, Sheet, Slot, Statement, Step, check,
+    NamedBlock, NamedExpression, Node, Operator, Sheet, Slot, Statement, Step, check,
 };

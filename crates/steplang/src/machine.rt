@@ -1,14 +1,14 @@
-ghost use Rattle.std.specs.Prelude.{◌≡◌, ◌≢◌, ◌-◌, ◌<ℤ◌, length, slice_get, slice_set, Some, Ok, List, suc, nat_lt, if◌then◌else◌, IfOk, MatchOption, None, [], reverse};
-ghost use Rattle.std.specs.Prelude.{pos};
+ghost use Rattle.std.specs.Prelude.{◌≡◌, ◌≢◌, ◌<ℤ◌, slice_get, slice_set, Ok, List, suc, nat_lt, if◌then◌else◌, IfOk, MatchOption, None, [], pos};
 ghost use Rattle.std.specs.Ordering.{int_eq};
 ghost use Rattle.steptree.specs.declared.body.TheConstants.{BUDGET};
 ghost use Rattle.steptree.specs.declared.code.Instruction.TheVariants as instruction;
-ghost use Rattle.steptree.specs.Run.{Read, assigned, putting};
+ghost use Rattle.steptree.specs.Run.{Read};
 ghost use Rattle.steptree.specs.Bodies.{outcome_of};
 ghost use Rattle.steptree.specs.Compiled.{Stands};
-ghost use Rattle.steptree.specs.Executed.{advanced, executed};
+ghost use Rattle.steptree.specs.Executed.{advanced};
+ghost use Rattle.steplang.specs.Stages.{IsStarted};
 ghost use Rattle.steplang.specs.declared.machine.Step.TheVariants.{On};
-ghost use Rattle.steplang.specs.Machine.{state_of, outcome_of_state, outcome_from, outcome_after, LeadsFrom, Falls, OpensOne, IsRare};
+ghost use Rattle.steplang.specs.Machine.{outcome_from, outcome_of_put, GetsValue, LeadsFrom, CarriesOut, IsInnermost, with_innermost, Falls, OpensOne, IsRare};
 
 use crate::value::{Variables, evaluate, evaluate_expression, evaluate_key, variables_of};
 use std::alloc::{AllocError, Global};
@@ -83,7 +83,7 @@ pub(crate) struct Machine<'a> {
 impl<'a> Machine<'a> {
     /// An instance with this key before the first statement of its body.
     pub(crate) fn start(alloc: Global, checked: &'a Checked, key: Key) -> Self
-        ensures { (reads : List Read) → outcome_of checked.entry.now.body key reads ≡ outcome_from result result.progress reads }
+        ensures { IsStarted result checked.entry.now.body key }
     {
         Machine {
             code: &checked.code.instructions,
@@ -101,9 +101,23 @@ impl<'a> Machine<'a> {
         }
     }
 
+    /// The same in the place of another instance, whose memory it keeps.
+    pub(crate) fn restart(&mut self, checked: &'a Checked, key: Key)
+        ensures { IsStarted self.new checked.entry.now.body key }
+    {
+        self.code = &checked.code.instructions;
+        self.progress = Progress {
+            at: checked.code.start,
+            counted: 0,
+        };
+        self.variables = variables_of(key);
+        self.loops.clear();
+        self.puts.clear();
+    }
+
     /// Gives the variable that waits for an item its value.
     pub(crate) fn answer(&mut self, variable: Slot, value: i64)
-        ensures { (reads : List Read) → outcome_from self.new self.new.progress reads ≡ outcome_of_state self.old self.old.progress (assigned variable value (state_of self.old self.old.progress reads)) }
+        ensures { GetsValue variable value self.old self.new }
     {
         self.variables[variable.place()] = value;
     }
@@ -198,7 +212,7 @@ impl<'a> Machine<'a> {
         begin: usize,
         after: usize,
     ) -> Result<Step, AllocError>
-        ensures leads { IfOk result (λ step. LeadsFrom (outcome_after (instruction.For variable from.now to.now turn begin after) self.old progress.old) step self.new progress.new) }
+        ensures leads { IfOk result (CarriesOut (instruction.For variable from.now to.now turn begin after) self.old progress.old self.new progress.new) }
         ensures opens { IfOk result (λ step. OpensOne self.old progress.old step self.new progress.new) }
         ensures same { self.new.code ≡ self.old.code }
     {
@@ -225,7 +239,7 @@ impl<'a> Machine<'a> {
     // The innermost loop that is open.
     #[inline(always)]
     fn innermost(&self) -> Option<Loop>
-        ensures { MatchOption result (self.now.loops.items ≡ []) (λ innermost. slice_get self.now.loops.items (length self.now.loops.items - 1) ≡ Some innermost) }
+        ensures { MatchOption result (self.now.loops.items ≡ []) (IsInnermost self.now.loops.items) }
     {
         self.loops.last().copied()
     }
@@ -234,8 +248,8 @@ impl<'a> Machine<'a> {
     #[inline(always)]
     fn turn(&mut self, innermost: Loop)
         requires left { innermost.next <ℤ innermost.to }
-        requires last { slice_get self.old.loops.items (length self.old.loops.items - 1) ≡ Some innermost }
-        ensures loops { self.new.loops.items ≡ slice_set self.old.loops.items (length self.old.loops.items - 1) (advanced innermost) }
+        requires last { IsInnermost self.old.loops.items innermost }
+        ensures loops { self.new.loops.items ≡ with_innermost self.old.loops.items (advanced innermost) }
         ensures variables { self.new.variables ≡ slice_set self.old.variables innermost.variable innermost.next }
         ensures same { (self.new.code ≡ self.old.code) × (self.new.puts ≡ self.old.puts) }
     {
@@ -254,7 +268,7 @@ impl<'a> Machine<'a> {
         components: &Components,
         next: usize,
     ) -> Step
-        ensures leads { LeadsFrom (outcome_after (instruction.Get variable collection components.now next) self.old progress.old) result self.new progress.new }
+        ensures leads { CarriesOut (instruction.Get variable collection components.now next) self.old progress.old self.new progress.new result }
         ensures opens { OpensOne self.old progress.old result self.new progress.new }
         ensures same { self.new.code ≡ self.old.code }
     {
@@ -277,7 +291,7 @@ impl<'a> Machine<'a> {
         value: &Expression,
         next: usize,
     ) -> Result<Step, AllocError>
-        ensures leads { IfOk result (λ step. LeadsFrom (outcome_after (instruction.PutItem collection components.now value.now next) self.old progress.old) step self.new progress.new) }
+        ensures leads { IfOk result (CarriesOut (instruction.PutItem collection components.now value.now next) self.old progress.old self.new progress.new) }
         ensures opens { IfOk result (λ step. OpensOne self.old progress.old step self.new progress.new) }
         ensures same { self.new.code ≡ self.old.code }
     {
@@ -300,7 +314,7 @@ impl<'a> Machine<'a> {
         components: &Components,
         next: usize,
     ) -> Result<Step, AllocError>
-        ensures leads { IfOk result (λ step. LeadsFrom (outcome_after (instruction.PutTag collection components.now next) self.old progress.old) step self.new progress.new) }
+        ensures leads { IfOk result (CarriesOut (instruction.PutTag collection components.now next) self.old progress.old self.new progress.new) }
         ensures opens { IfOk result (λ step. OpensOne self.old progress.old step self.new progress.new) }
         ensures same { self.new.code ≡ self.old.code }
     {
@@ -312,7 +326,7 @@ impl<'a> Machine<'a> {
 
     // Makes one more put, if the limit allows it.
     fn put(&mut self, progress: &mut Progress, put: Put, next: usize) -> Result<Step, AllocError>
-        ensures leads { IfOk result (λ step. LeadsFrom (λ reads. putting put (state_of self.old progress.old reads) (executed (BUDGET - progress.old.counted) self.old.code.now (reverse self.old.loops.items) next)) step self.new progress.new) }
+        ensures leads { IfOk result (λ step. LeadsFrom (outcome_of_put put next self.old progress.old) step self.new progress.new) }
         ensures opens { IfOk result (λ step. OpensOne self.old progress.old step self.new progress.new) }
         ensures same { self.new.code ≡ self.old.code }
     {

@@ -30,12 +30,12 @@ impl<'a> Model for Parked<'a> {
 
 impl<'a> Run<'a> {
     ghost use Rattle.std.specs.Prelude.{◌≡◌, IsSome};
-    ghost use Rattle.steplang.specs.Running.{ValueOf, pending_of};
+    ghost use Rattle.steplang.specs.Running.{pending_of, resumed};
 
     /// Turns a run that asks for an item into a `Parked` instance, which keeps it.
     pub fn park(self) -> Parked<'a>
         requires { IsSome (pending_of self.awaits) }
-        ensures parked { self.entry ≡ record { checked = result.checked; instance = result.instance; reads = result.reads; awaits = ValueOf result.address } }
+        ensures parked { self.entry ≡ resumed result }
     {
         let Some(address) = self.asked() else {
             unreachable!()

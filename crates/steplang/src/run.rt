@@ -1,4 +1,4 @@
-ghost use Rattle.steplang.specs.Stages.{IsReady, IsWaiting};
+ghost use Rattle.steplang.specs.Stages.{IsReady, IsStarted, IsWaiting};
 
 use crate::machine::{Machine, Step};
 use crate::outcome::{Bad, Given, Reads, Turn};
@@ -28,11 +28,12 @@ pub struct Run<'a> {
     alloc: Global,
     checked: &'a Checked,
     instance: Inst,
-    machine: Machine<'a>,
+    // In memory of its own, so that a run is moved in a few words.
+    machine: Box<Machine<'a>>,
     reads: Vec<(Addr, i64)>,
     stage: Stage,
-    ghost ready: { IsReady stage checked.now.body instance.key reads.items machine },
-    ghost waiting: { IsWaiting stage checked.now.body instance.key reads.items machine },
+    ghost ready: { IsReady stage checked.now.body instance.key reads.items machine.value },
+    ghost waiting: { IsWaiting stage checked.now.body instance.key reads.items machine.value },
 }
 
 impl<'a> Model for Run<'a> {
@@ -50,24 +51,44 @@ impl<'a> Model for Run<'a> {
 }
 
 impl<'a> Run<'a> {
-    ghost use Rattle.std.specs.Prelude.{◌≡◌, [], length, IfOk, IfSome, OnOk, OnErr, IsErr};
-    ghost use Rattle.steplang.specs.Running.{Nothing, Refused, IsDue, pending_of, answered};
+    ghost use Rattle.std.specs.Prelude.{◌≡◌, length, IfOk, IfSome, OnOk, OnErr, IsErr};
+    ghost use Rattle.steplang.specs.Running.{Nothing, Refused, IsDue, pending_of, begun, answered};
     ghost use Rattle.steplang.specs.Turns.{Tells};
     ghost use Rattle.steptree.specs.Bodies.{Along, Asks};
 
     /// A run of this step for an instance, whose key has as many components as the step has parameters.
     pub fn start(alloc: Global, checked: &'a Checked, instance: Inst) -> Result<Run<'a>, AllocError>
         requires { length instance.key ≡ checked.now.parameters }
-        ensures begins { IfOk result (λ run. run ≡ record { checked = checked.entry; instance = instance; reads = []; awaits = Nothing }) }
+        ensures begins { IfOk result (λ run. run ≡ begun checked.entry instance) }
     {
-        Ok(Run {
+        let machine = Box::new(alloc, Machine::start(alloc, checked, instance.key))?;
+        Ok(Run::of(alloc, checked, instance, machine))
+    }
+
+    // A run whose machine stands before the first statement of the body.
+    pub(crate) fn of(
+        alloc: Global,
+        checked: &'a Checked,
+        instance: Inst,
+        machine: Box<Machine<'a>>,
+    ) -> Run<'a>
+        requires { IsStarted machine.value checked.now.body instance.key }
+        ensures { result ≡ begun checked.entry instance }
+    {
+        Run {
             alloc,
             checked,
             instance,
-            machine: Machine::start(alloc, checked, instance.key),
+            machine,
             reads: Vec::new(alloc),
             stage: Stage::Ready,
-        })
+        }
+    }
+
+    // The memory of its machine.
+    pub(crate) fn into_machine(self) -> Box<Machine<'a>> {
+        let Run { machine, .. } = self;
+        machine
     }
 
     /// Goes on: first with `None`, then with the value of the item that it asks for. Do not call it after the end.

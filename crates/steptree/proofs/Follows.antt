@@ -1,6 +1,6 @@
 -- Code does what its block does.
-use Rattle.std.proofs.Common.{◌≡◌, ℕ, zero, suc, ◌+◌, ◌≤◌, ℤ, pos, ◌+ℤ◌, ◌<ℤ◌, int_lt, nat_lt, List, [], ◌∷◌, length, Bool, true, false, if◌then◌else◌, refl, sym, ap, subst, ◌∙◌, arith, rules}
-use Rattle.std.specs.Prelude.{Option, Some, Result, Ok, Err, slice_get}
+use Rattle.std.proofs.Common.{◌≡◌, ℕ, zero, suc, ◌+◌, ◌≤◌, ℤ, pos, ◌+ℤ◌, int_lt, nat_lt, List, [], ◌∷◌, length, Bool, true, false, if◌then◌else◌, refl, sym, ap, subst, ◌∙◌, arith, rules}
+use Rattle.std.specs.Prelude.{Option, Some, Result, Ok, Err}
 use Rattle.std.specs.Int.{int_gap}
 use Rattle.std.proofs.lemmas.Bool.Decides.{nat_tests}
 use Rattle.std.specs.Ordering.{int_eq}
@@ -11,15 +11,14 @@ use Rattle.terms.specs.declared.put.TheConstants.{MOST_PUTS}
 use Rattle.terms.specs.declared.fault.FaultKind.{FaultKind}
 use Rattle.terms.specs.declared.fault.FaultKind.TheVariants.{Budget, TooManyPuts}
 use Rattle.terms.specs.Same.{is_same}
-use Rattle.steptree.specs.declared.block.Block.{Block}
+use Rattle.steptree.specs.Tree.{Block, End, Assign, If, For, Get, PutItem, PutTag}
 use Rattle.steptree.specs.declared.body.TheConstants.{BUDGET}
 use Rattle.steptree.specs.declared.code.Instruction.{Instruction}
 use Rattle.steptree.specs.declared.code.Instruction.TheVariants as instruction
 use Rattle.steptree.specs.declared.code.Loop.{Loop}
-use Rattle.steptree.specs.Tree.{End, Assign, If, For, Get, PutItem, PutTag}
 use Rattle.steptree.specs.Run.{Read, State, Outcome, ends, faults, asks, strays, followed, counting, given, assigned, answered, putting, turns, run}
 use Rattle.steptree.specs.Values.{value_of, values_of}
-use Rattle.steptree.specs.Executed.{Onward, advanced, expression_of, performed, turned, stepped, executed}
+use Rattle.steptree.specs.Executed.{Onward, advanced, performed, turned, stepped, executed}
 use Rattle.steptree.specs.Compiled.{Stands, IsCode}
 
 -- what is still to be done: a block, or the turns of a loop that are left, from a number up to but not including another

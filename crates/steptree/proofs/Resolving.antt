@@ -1,8 +1,7 @@
 -- The expressions of components, resolved one after another.
 use Rattle.std.proofs.Common.{◌≡◌, ◌<◌, ℕ, ◌+◌, List, [], ◌∷◌, ◌++◌, length, drop, get_or, refl, sym, ap, subst, ◌∙◌, append_assoc, length-append}
 use Rattle.steptree.specs.declared.checker.CheckFault.{CheckFault}
-use Rattle.steptree.specs.declared.expression.Expression.{Expression}
-use Rattle.steptree.specs.declared.step.NamedExpression.{NamedExpression}
+use Rattle.steptree.specs.Tree.{Expression, NamedExpression}
 use Rattle.steptree.specs.CheckFaults.{expression_faults, component_faults}
 use Rattle.steptree.specs.Names.{Text}
 use Rattle.steptree.specs.Resolved.{IsExpression, AreExpressions}

@@ -11,8 +11,7 @@ use Rattle.terms.specs.declared.put.TheConstants.{MOST_PUTS}
 use Rattle.terms.specs.declared.fault.FaultKind.{FaultKind}
 use Rattle.terms.specs.declared.fault.FaultKind.TheVariants.{Budget, TooManyPuts}
 use Rattle.terms.specs.Same.{is_same}
-use Rattle.steptree.specs.declared.block.Block.{Block}
-use Rattle.steptree.specs.Tree.{End, Assign, If, For, Get, PutItem, PutTag}
+use Rattle.steptree.specs.Tree.{Block, End, Assign, If, For, Get, PutItem, PutTag}
 use Rattle.steptree.specs.declared.body.Body.{Body}
 use Rattle.steptree.specs.declared.body.TheConstants.{BUDGET}
 use Rattle.steptree.specs.Values.{value_of, values_of}

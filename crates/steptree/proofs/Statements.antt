@@ -1,19 +1,16 @@
 -- The statements of a block, resolved one after another.
 use Rattle.std.proofs.Common.{◌≡◌, ◌≤◌, List, [], ◌∷◌, ◌++◌, refl, sym, ap, subst, ◌∙◌, arith}
 use Rattle.std.specs.Prelude.{Result, Ok, Err, IfOk, MatchResult}
-use Rattle.steptree.specs.declared.block.Block.{Block}
+use Rattle.steptree.specs.Tree.{Block, NamedBlock, behind, with_rest, joined, block_size}
 use Rattle.steptree.specs.declared.checker.CheckFault.{CheckFault}
 use Rattle.steptree.specs.Nameable.{Nameable}
-use Rattle.steptree.specs.declared.step.NamedBlock.{NamedBlock, size-NamedBlock}
-use Rattle.steptree.specs.declared.step.NamedBlock.TheViews.{sized-Assign, sized-If, sized-For, sized-Get, sized-PutItem, sized-PutTag}
-use Rattle.steptree.specs.declared.step.NamedBlock.TheVariants as named
 use Rattle.steptree.specs.CheckFaults.{block_faults}
 use Rattle.steptree.specs.Names.{Text}
 use Rattle.steptree.specs.Resolved.{IsBlock}
 use Rattle.steptree.specs.Sheet.{KeepsTo}
-use Rattle.steptree.specs.Statements.{Reports, IsFirst, IsFirstOf, IsStatement, behind, with_rest, joined}
+use Rattle.steptree.specs.Statements.{Reports, IsFirst, IsFirstOf, IsStatement}
 use Rattle.steptree.proofs.FirstFaults.{in_front}
-use Rattle.steptree.proofs.Joining.{joined_last}
+use Rattle.steptree.proofs.Joining.{joined_last, no_larger}
 use Rattle.steptree.proofs.Lists.{empty_in_front}
 
 -- the result for a statement is the result for the first statement of a block that begins with it
@@ -32,15 +29,6 @@ firsts names sheet block statement rest faults (Ok first) begins behind_it fault
 firsts names sheet block statement rest faults (Err fault) begins behind_it faults_are is first =
     subst (λ (l : List CheckFault). IsFirst l fault) (sym (ap (block_faults names sheet) begins ∙ faults_are)) (in_front faults (block_faults names sheet rest) fault first)
 
-pub shallower : (block : NamedBlock) → size-NamedBlock (behind block) ≤ size-NamedBlock block
-shallower named.End = omega arith
-shallower (named.Assign' name value p rest) = omega (arith, sized-Assign name value (record { ptr = p.ptr; alloc = p.alloc; value = rest }))
-shallower (named.If' condition p first q second r rest) = omega (arith, sized-If condition (record { ptr = p.ptr; alloc = p.alloc; value = first }) (record { ptr = q.ptr; alloc = q.alloc; value = second }) (record { ptr = r.ptr; alloc = r.alloc; value = rest }))
-shallower (named.For' name from to p block q rest) = omega (arith, sized-For name from to (record { ptr = p.ptr; alloc = p.alloc; value = block }) (record { ptr = q.ptr; alloc = q.alloc; value = rest }))
-shallower (named.Get' name item p rest) = omega (arith, sized-Get name item (record { ptr = p.ptr; alloc = p.alloc; value = rest }))
-shallower (named.PutItem' item value p rest) = omega (arith, sized-PutItem item value (record { ptr = p.ptr; alloc = p.alloc; value = rest }))
-shallower (named.PutTag' tag p rest) = omega (arith, sized-PutTag tag (record { ptr = p.ptr; alloc = p.alloc; value = rest }))
-
 module _ (names : List Text) (sheet : Nameable) (block : NamedBlock) where
   -- the statements before those that are left are resolved, and none of them has a fault
   pub record Resolved (left : NamedBlock) (statements : List Block) : Type 0 where
@@ -51,13 +39,15 @@ module _ (names : List Text) (sheet : Nameable) (block : NamedBlock) where
   pub none_yet : Resolved block []
   none_yet = record { resolves = λ rest are. are; keeps = λ rest kept. kept; no_fault = refl }
 
-  pub one_more : (left next : NamedBlock) (statements more : List Block) (first : Block) → behind left ≡ next → more ≡ statements ++ first ∷ [] → Resolved left statements
-      → IsFirstOf names sheet left first → Resolved next more
+  pub one_more : (left next : NamedBlock) (statements more : List Block) (first : Block) → behind left ≡ next → more ≡ statements ++ first ∷ []
+      → Resolved left statements × (block_size left ≤ block_size block) → IsFirstOf names sheet left first → Resolved next more × (block_size next ≤ block_size block)
   one_more left next statements more first behind_it pushed so_far is =
-      let last : (rest : Block) → joined statements (with_rest first rest) ≡ joined more rest = λ rest. sym (ap (λ (l : List Block). joined l rest) pushed ∙ joined_last statements first rest) in
-      record {
-        resolves = λ rest are. subst (IsBlock names sheet block) (last rest)
-            (so_far.resolves (with_rest first rest) (is.resolves rest (subst (λ (b : NamedBlock). IsBlock names sheet b rest) (sym behind_it) are)));
-        keeps = λ rest kept. subst (KeepsTo sheet) (last rest) (so_far.keeps (with_rest first rest) (is.keeps rest kept));
-        no_fault = so_far.no_fault ∙ is.no_fault ∙ ap (block_faults names sheet) behind_it;
-      }
+      let last : (rest : Block) → joined statements (with_rest first rest) ≡ joined more rest = λ rest. sym (ap (λ (l : List Block). joined l rest) pushed ∙ joined_last statements first rest) in (
+        record {
+          resolves = λ rest are. subst (IsBlock names sheet block) (last rest)
+              (so_far.0.resolves (with_rest first rest) (is.resolves rest (subst (λ (b : NamedBlock). IsBlock names sheet b rest) (sym behind_it) are)));
+          keeps = λ rest kept. subst (KeepsTo sheet) (last rest) (so_far.0.keeps (with_rest first rest) (is.keeps rest kept));
+          no_fault = so_far.0.no_fault ∙ is.no_fault ∙ ap (block_faults names sheet) behind_it;
+        },
+        omega (arith, no_larger left, ap block_size behind_it, so_far.1),
+      )

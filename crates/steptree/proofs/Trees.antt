@@ -8,8 +8,7 @@ use Rattle.terms.specs.declared.put.Put.{Put}
 use Rattle.terms.specs.declared.put.Put.TheVariants as put
 use Rattle.terms.specs.declared.fault.FaultKind.{FaultKind}
 use Rattle.terms.specs.declared.fault.FaultKind.TheVariants.{Budget, TooManyPuts}
-use Rattle.steptree.specs.declared.block.Block.{Block}
-use Rattle.steptree.specs.Tree.{End, Assign, If, For, Get, PutItem, PutTag}
+use Rattle.steptree.specs.Tree.{Block, End, Assign, If, For, Get, PutItem, PutTag}
 use Rattle.steptree.specs.declared.body.Body.{Body}
 use Rattle.steptree.specs.declared.body.TheConstants.{BUDGET}
 use Rattle.terms.specs.declared.put.TheConstants.{MOST_PUTS}

@@ -13,10 +13,7 @@ use Rattle.terms.specs.declared.fault.FaultKind.TheVariants.{Overflow, DivisionB
 use Rattle.terms.specs.Same.{is_same}
 use Rattle.steptree.specs.declared.expression.Operator.{Operator}
 use Rattle.steptree.specs.declared.expression.Operator.TheVariants as operator
-use Rattle.steptree.specs.declared.expression.Expression.{Expression}
-use Rattle.steptree.specs.Tree.{Number, Variable, Negation, Operation}
-use Rattle.steptree.specs.declared.block.Block.{Block}
-use Rattle.steptree.specs.Tree.{End, Assign, If, For, Get, PutItem, PutTag}
+use Rattle.steptree.specs.Tree.{Expression, Number, Variable, Negation, Operation, Block, End, Assign, If, For, Get, PutItem, PutTag}
 use Rattle.steptree.specs.declared.body.Body.{Body}
 use Rattle.steptree.specs.declared.body.TheConstants.{BUDGET}
 use Rattle.steptree.specs.Values.{is_held, held, operated, with_value, value_of, values_of}

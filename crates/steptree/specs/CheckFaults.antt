@@ -5,11 +5,7 @@ use Rattle.steptree.specs.declared.checker.CheckError.TheVariants.{UnknownName, 
 use Rattle.steptree.specs.declared.checker.CheckFault.{CheckFault}
 use Rattle.steptree.specs.Nameable.{Collection, Nameable}
 use Rattle.steptree.specs.declared.step.Name.{Name}
-use Rattle.steptree.specs.declared.step.NamedExpression.{NamedExpression}
-use Rattle.steptree.specs.declared.step.NamedExpression.TheVariants.{Number, Variable, Negation', Operation'}
-use Rattle.steptree.specs.declared.step.NamedKey.{NamedKey}
-use Rattle.steptree.specs.declared.step.NamedBlock.{NamedBlock}
-use Rattle.steptree.specs.declared.step.NamedBlock.TheVariants.{End, Assign', If', For', Get', PutItem', PutTag'}
+use Rattle.steptree.specs.Tree.{NamedExpression, Number, Variable, Negation, Operation, NamedBlock, End, Assign, If, For, Get, PutItem, PutTag}
 use Rattle.steptree.specs.declared.step.Step.{Step}
 use Rattle.steptree.specs.Names.{Text, names_of, slot_of, number_of}
 
@@ -28,8 +24,8 @@ variable_faults names name = fault_if (is_none (slot_of names name)) UnknownName
 abbrev pub expression_faults : List Text → NamedExpression → List CheckFault
 expression_faults names (Number number) = []
 expression_faults names (Variable name) = variable_faults names name
-expression_faults names (Negation' _ operand) = expression_faults names operand
-expression_faults names (Operation' operator _ left right) = expression_faults names left ++ expression_faults names right
+expression_faults names (Negation operand) = expression_faults names operand
+expression_faults names (Operation operator left right) = expression_faults names left ++ expression_faults names right
 
 abbrev pub component_faults : List Text → List NamedExpression → List CheckFault
 component_faults names [] = []
@@ -44,29 +40,29 @@ abbrev pub components_of : List Collection → ℕ → Option ℕ
 components_of collections number = option_map (λ collection. collection.components) (slice_get collections number)
 
 -- the faults of a use of the collection with this number: the step may not use it so, or its keys have another number of components
-abbrev pub known_faults : List Collection → List Bool → CheckError → NamedKey → Option ℕ → List CheckFault
-known_faults collections allowed error key None = fault_if true UnknownName key.collection
-known_faults collections allowed error key (Some number) =
-    fault_if (not (get_or allowed number false)) error key.collection
-    ++ fault_if (not (is_number (components_of collections number) (length key.components.items))) Arity key.collection
+abbrev pub known_faults : List Collection → List Bool → CheckError → Name → List NamedExpression → Option ℕ → List CheckFault
+known_faults collections allowed error name components None = fault_if true UnknownName name
+known_faults collections allowed error name components (Some number) =
+    fault_if (not (get_or allowed number false)) error name
+    ++ fault_if (not (is_number (components_of collections number) (length components))) Arity name
 
-abbrev pub key_faults : List Text → List Collection → List Bool → CheckError → NamedKey → List CheckFault
-key_faults names collections allowed error key =
-    known_faults collections allowed error key (number_of collections key.collection) ++ component_faults names key.components.items
+abbrev pub key_faults : List Text → List Collection → List Bool → CheckError → Name → List NamedExpression → List CheckFault
+key_faults names collections allowed error name components =
+    known_faults collections allowed error name components (number_of collections name) ++ component_faults names components
 
 abbrev pub block_faults : List Text → Nameable → NamedBlock → List CheckFault
 block_faults names sheet End = []
-block_faults names sheet (Assign' name value _ rest) = variable_faults names name ++ expression_faults names value ++ block_faults names sheet rest
-block_faults names sheet (If' condition _ first _ second _ rest) =
+block_faults names sheet (Assign name value rest) = variable_faults names name ++ expression_faults names value ++ block_faults names sheet rest
+block_faults names sheet (If condition first second rest) =
     expression_faults names condition ++ block_faults names sheet first ++ block_faults names sheet second ++ block_faults names sheet rest
-block_faults names sheet (For' name from to _ block _ rest) =
+block_faults names sheet (For name from to block rest) =
     variable_faults names name ++ expression_faults names from ++ expression_faults names to ++ block_faults names sheet block ++ block_faults names sheet rest
-block_faults names sheet (Get' name item _ rest) =
-    variable_faults names name ++ key_faults names sheet.items sheet.reads UndeclaredRead item ++ block_faults names sheet rest
-block_faults names sheet (PutItem' item value _ rest) =
-    key_faults names sheet.items sheet.item_puts UndeclaredPut item ++ expression_faults names value ++ block_faults names sheet rest
-block_faults names sheet (PutTag' tag _ rest) =
-    key_faults names sheet.tags sheet.tag_puts UndeclaredPut tag ++ block_faults names sheet rest
+block_faults names sheet (Get name item components rest) =
+    variable_faults names name ++ key_faults names sheet.items sheet.reads UndeclaredRead item components.items ++ block_faults names sheet rest
+block_faults names sheet (PutItem item components value rest) =
+    key_faults names sheet.items sheet.item_puts UndeclaredPut item components.items ++ expression_faults names value ++ block_faults names sheet rest
+block_faults names sheet (PutTag tag components rest) =
+    key_faults names sheet.tags sheet.tag_puts UndeclaredPut tag components.items ++ block_faults names sheet rest
 
 -- all faults: those of the read block, then those of the write block
 abbrev pub faults_of : Nameable → Step → List CheckFault

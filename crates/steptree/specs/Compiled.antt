@@ -1,7 +1,7 @@
 -- When instructions are the code of a block.
-use Rattle.std.specs.Prelude.{◌≡◌, ℕ, List, ◌++◌, Some, slice_get}
-use Rattle.steptree.specs.declared.block.Block.{Block}
-use Rattle.steptree.specs.Tree.{End, Assign, If, For, Get, PutItem, PutTag}
+use Rattle.std.specs.Prelude.{◌≡◌, ℕ, List, Some, slice_get}
+use Rattle.terms.specs.declared.name.ItemCollection.{ItemCollection}
+use Rattle.steptree.specs.Tree.{Expression, Block, End, Assign, If, For, Get, PutItem, PutTag, behind}
 use Rattle.steptree.specs.declared.code.Formula.{Formula}
 use Rattle.steptree.specs.declared.code.Instruction.{Instruction}
 use Rattle.steptree.specs.declared.code.Instruction.TheVariants as instruction
@@ -33,12 +33,18 @@ IsCode code at (PutTag collection components rest) stop = (next : ℕ)
 abbrev pub Keeps : List Instruction → List Instruction → Type 0
 Keeps old new = (at : ℕ) (one : Instruction) → Stands old at one → Stands new at one
 
--- a block without its first statement
-abbrev pub remainder : Block → Block
-remainder End = End
-remainder (Assign variable value rest) = rest
-remainder (If condition first second rest) = rest
-remainder (For variable from to block rest) = rest
-remainder (Get variable collection components rest) = rest
-remainder (PutItem collection components value rest) = rest
-remainder (PutTag collection components rest) = rest
+-- at `at` the code does the statement, and goes on with whatever block is at `next`
+abbrev pub Compiles : (Block → Block) → List Instruction → ℕ → List Instruction → ℕ → Type 0
+Compiles statement old next new at = (rest : Block) (stop : ℕ) → IsCode old next rest stop → IsCode new at (statement rest) stop
+
+-- at `at` the code does the loop, and goes on with whatever block is at `next`
+abbrev pub CompilesLoop : ℕ → Expression → Expression → Block → List Instruction → ℕ → List Instruction → ℕ → Type 0
+CompilesLoop variable from to block = Compiles (For variable from to block)
+
+-- the same of a put of an item
+abbrev pub CompilesItemPut : ItemCollection → List Expression → Expression → List Instruction → ℕ → List Instruction → ℕ → Type 0
+CompilesItemPut collection components value = Compiles (PutItem collection components value)
+
+-- at `at` the code does the block, if its statements after the first are at `next`
+abbrev pub CompilesFirst : Block → List Instruction → ℕ → List Instruction → ℕ → Type 0
+CompilesFirst block old next new at = (stop : ℕ) → IsCode old next (behind block) stop → IsCode new at block stop

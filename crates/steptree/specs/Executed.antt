@@ -2,8 +2,7 @@
 use Rattle.std.specs.Prelude.{◌≡◌, ℕ, zero, suc, ℤ, pos, ◌+ℤ◌, int_lt, List, [], ◌∷◌, Option, Some, None, if◌then◌else◌, slice_get}
 use Rattle.std.specs.Ordering.{int_eq}
 use Rattle.terms.specs.declared.put.Put.TheVariants as put
-use Rattle.steptree.specs.declared.expression.Expression.{Expression}
-use Rattle.steptree.specs.Tree.{Number, Variable, Operation}
+use Rattle.steptree.specs.Tree.{Expression, Number, Variable, Operation}
 use Rattle.steptree.specs.declared.expression.Operator.TheVariants as operator
 use Rattle.steptree.specs.declared.code.Operand.{Operand}
 use Rattle.steptree.specs.declared.code.Operand.TheVariants as operand

@@ -1,23 +1,17 @@
 -- When a body with numbers resolves a body with names: each name is replaced by what it stands for.
 use Rattle.std.specs.Prelude.{◌≡◌, ⊤, ℕ, List, [], ◌∷◌, map, length, Some}
-use Rattle.steptree.specs.declared.expression.Expression.{Expression}
-use Rattle.steptree.specs.Tree as tree
-use Rattle.steptree.specs.declared.block.Block.{Block}
 use Rattle.steptree.specs.declared.checked.Checked.{Checked}
 use Rattle.steptree.specs.Nameable.{Collection, Nameable}
-use Rattle.steptree.specs.declared.step.NamedExpression.{NamedExpression}
-use Rattle.steptree.specs.declared.step.NamedExpression.TheVariants as named
-use Rattle.steptree.specs.declared.step.NamedKey.{NamedKey}
-use Rattle.steptree.specs.declared.step.NamedBlock.{NamedBlock}
-use Rattle.steptree.specs.declared.step.NamedBlock.TheVariants as named_block
+use Rattle.steptree.specs.declared.step.Name.{Name}
 use Rattle.steptree.specs.declared.step.Step.{Step}
+use Rattle.steptree.specs.Tree.{Expression, NamedExpression, Number, Variable, Negation, Operation, Block, NamedBlock, End, Assign, If, For, Get, PutItem, PutTag}
 use Rattle.steptree.specs.Names.{Text, names_of, slot_of, number_of}
 
 abbrev pub IsExpression : List Text → NamedExpression → Expression → Type 0
-IsExpression names (named.Number m) (tree.Number n) = n ≡ m
-IsExpression names (named.Variable name) (tree.Variable slot) = slot_of names name ≡ Some slot
-IsExpression names (named.Negation' _ e) (tree.Negation f) = IsExpression names e f
-IsExpression names (named.Operation' operator _ e1 e2) (tree.Operation same f1 f2) = (same ≡ operator) × IsExpression names e1 f1 × IsExpression names e2 f2
+IsExpression names (Number m) (Number n) = n ≡ m
+IsExpression names (Variable name) (Variable slot) = slot_of names name ≡ Some slot
+IsExpression names (Negation e) (Negation f) = IsExpression names e f
+IsExpression names (Operation operator e1 e2) (Operation same f1 f2) = (same ≡ operator) × IsExpression names e1 f1 × IsExpression names e2 f2
 IsExpression names e f = ⊥
 
 abbrev pub AreExpressions : List Text → List NamedExpression → List Expression → Type 0
@@ -26,22 +20,26 @@ AreExpressions names (e ∷ es) (f ∷ fs) = IsExpression names e f × AreExpres
 AreExpressions names es fs = ⊥
 
 -- a key with names is a key of the collection with this number, and has these components
-abbrev pub IsKey : List Text → List Collection → NamedKey → ℕ → List Expression → Type 0
-IsKey names collections key number components = (number_of collections key.collection ≡ Some number) × AreExpressions names key.components.items components
+abbrev pub IsKey : List Text → List Collection → Name → List NamedExpression → ℕ → List Expression → Type 0
+IsKey names collections name parts number components = (number_of collections name ≡ Some number) × AreExpressions names parts components
+
+-- the number and the components together are the key with names
+abbrev pub ResolvesKey : List Text → List Collection → Name → List NamedExpression → ℕ × List Expression → Type 0
+ResolvesKey names collections name parts resolved = IsKey names collections name parts resolved.0 resolved.1
 
 abbrev pub IsBlock : List Text → Nameable → NamedBlock → Block → Type 0
-IsBlock names sheet named_block.End tree.End = ⊤
-IsBlock names sheet (named_block.Assign' name e _ block) (tree.Assign slot f rest) = (slot_of names name ≡ Some slot) × IsExpression names e f × IsBlock names sheet block rest
-IsBlock names sheet (named_block.If' e _ a _ b _ block) (tree.If f first second rest) =
+IsBlock names sheet End End = ⊤
+IsBlock names sheet (Assign name e block) (Assign slot f rest) = (slot_of names name ≡ Some slot) × IsExpression names e f × IsBlock names sheet block rest
+IsBlock names sheet (If e a b block) (If f first second rest) =
     IsExpression names e f × IsBlock names sheet a first × IsBlock names sheet b second × IsBlock names sheet block rest
-IsBlock names sheet (named_block.For' name e1 e2 _ a _ block) (tree.For slot f1 f2 inner rest) =
+IsBlock names sheet (For name e1 e2 a block) (For slot f1 f2 inner rest) =
     (slot_of names name ≡ Some slot) × IsExpression names e1 f1 × IsExpression names e2 f2 × IsBlock names sheet a inner × IsBlock names sheet block rest
-IsBlock names sheet (named_block.Get' name key _ block) (tree.Get slot collection components rest) =
-    (slot_of names name ≡ Some slot) × IsKey names sheet.items key collection.0 components × IsBlock names sheet block rest
-IsBlock names sheet (named_block.PutItem' key e _ block) (tree.PutItem collection components f rest) =
-    IsKey names sheet.items key collection.0 components × IsExpression names e f × IsBlock names sheet block rest
-IsBlock names sheet (named_block.PutTag' key _ block) (tree.PutTag collection components rest) =
-    IsKey names sheet.tags key collection.0 components × IsBlock names sheet block rest
+IsBlock names sheet (Get name item parts block) (Get slot collection components rest) =
+    (slot_of names name ≡ Some slot) × IsKey names sheet.items item parts.items collection.0 components × IsBlock names sheet block rest
+IsBlock names sheet (PutItem item parts e block) (PutItem collection components f rest) =
+    IsKey names sheet.items item parts.items collection.0 components × IsExpression names e f × IsBlock names sheet block rest
+IsBlock names sheet (PutTag tag parts block) (PutTag collection components rest) =
+    IsKey names sheet.tags tag parts.items collection.0 components × IsBlock names sheet block rest
 IsBlock names sheet block other = ⊥
 
 -- a checked step is the step with each name replaced by what it stands for

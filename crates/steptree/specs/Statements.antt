@@ -1,14 +1,13 @@
 -- The statements of a block one by one: each as a block that ends after it.
-use Rattle.std.specs.Prelude.{◌≡◌, ◌⊎◌, List, [], ◌∷◌, map, Some, Result, MatchResult, slice_get}
-use Rattle.steptree.specs.declared.block.Block.{Block}
-use Rattle.steptree.specs.Tree.{End, Assign, If, For, Get, PutItem, PutTag}
+use Rattle.std.specs.Prelude.{◌≡◌, ◌⊎◌, ◌++◌, Bool, List, [], map, Some, Result, MatchResult, slice_get}
+use Rattle.steptree.specs.Tree.{Block, NamedBlock, NamedExpression, Assign, behind, with_rest}
+use Rattle.steptree.specs.declared.checker.CheckError.{CheckError}
+use Rattle.steptree.specs.declared.checker.CheckError.TheVariants.{UndeclaredRead, UndeclaredPut}
 use Rattle.steptree.specs.declared.checker.CheckFault.{CheckFault}
-use Rattle.steptree.specs.Nameable.{Nameable}
+use Rattle.steptree.specs.Nameable.{Collection, Nameable}
 use Rattle.steptree.specs.declared.step.Name.{Name}
-use Rattle.steptree.specs.declared.step.NamedBlock.{NamedBlock}
-use Rattle.steptree.specs.declared.step.NamedBlock.TheVariants as named
-use Rattle.steptree.specs.CheckFaults.{block_faults, no_memory}
-use Rattle.steptree.specs.Names.{Text}
+use Rattle.steptree.specs.CheckFaults.{block_faults, expression_faults, key_faults, known_faults, no_memory, variable_faults}
+use Rattle.steptree.specs.Names.{Text, number_of}
 use Rattle.steptree.specs.Resolved.{IsBlock}
 use Rattle.steptree.specs.Sheet.{KeepsTo}
 
@@ -23,38 +22,53 @@ IsFirst faults fault = (fault ≡ no_memory) ⊎ (slice_get faults 0 ≡ Some fa
 abbrev pub Reports : {X : Type 0} → List CheckFault → Result X CheckFault → Type 0
 Reports faults result = MatchResult result (λ value. faults ≡ []) (IsFirst faults)
 
--- the statements after the first
-abbrev pub behind : NamedBlock → NamedBlock
-behind named.End = named.End
-behind (named.Assign' name value p rest) = rest
-behind (named.If' condition p first q second r rest) = rest
-behind (named.For' name from to p block q rest) = rest
-behind (named.Get' name item p rest) = rest
-behind (named.PutItem' item value p rest) = rest
-behind (named.PutTag' tag p rest) = rest
+-- the same of the faults of a choice, and of a loop, with those of their blocks
+abbrev pub ReportsChoice : {X : Type 0} → List Text → Nameable → NamedExpression → NamedBlock → NamedBlock → Result X CheckFault → Type 0
+ReportsChoice names sheet condition first second = Reports (expression_faults names condition ++ block_faults names sheet first ++ block_faults names sheet second)
 
--- the first statement, with these after it
-abbrev pub with_rest : Block → Block → Block
-with_rest End rest = rest
-with_rest (Assign variable value other) rest = Assign variable value rest
-with_rest (If condition first second other) rest = If condition first second rest
-with_rest (For variable from to block other) rest = For variable from to block rest
-with_rest (Get variable collection components other) rest = Get variable collection components rest
-with_rest (PutItem collection components value other) rest = PutItem collection components value rest
-with_rest (PutTag collection components other) rest = PutTag collection components rest
+abbrev pub ReportsLoop : {X : Type 0} → List Text → Nameable → Name → NamedExpression → NamedExpression → NamedBlock → Result X CheckFault → Type 0
+ReportsLoop names sheet variable from to block =
+    Reports (variable_faults names variable ++ expression_faults names from ++ expression_faults names to ++ block_faults names sheet block)
 
--- the first statements of these blocks, one after another, with a block after them
-abbrev pub joined : List Block → Block → Block
-joined [] block = block
-joined (first ∷ others) block = with_rest first (joined others block)
+-- the same of the faults of a use of a collection by its name: it is not known, may not be used so, or has keys of another number of components
+abbrev pub ReportsUse : {X : Type 0} → List Collection → List Bool → CheckError → Name → List NamedExpression → Result X CheckFault → Type 0
+ReportsUse collections allowed error name components = Reports (known_faults collections allowed error name components (number_of collections name))
+
+-- the same of the faults of a key: of its collection, and then of its components
+abbrev pub ReportsKey : {X : Type 0} → List Text → List Collection → List Bool → CheckError → Name → List NamedExpression → Result X CheckFault → Type 0
+ReportsKey names collections allowed error name components = Reports (key_faults names collections allowed error name components)
+
+-- the same of the faults of an assignment: of its variable, and then of its value
+abbrev pub ReportsAssignment : {X : Type 0} → List Text → Name → NamedExpression → Result X CheckFault → Type 0
+ReportsAssignment names variable value = Reports (variable_faults names variable ++ expression_faults names value)
+
+-- the same of the faults of a read of an item: of its variable, and then of the item's key
+abbrev pub ReportsGet : {X : Type 0} → List Text → Nameable → Name → Name → List NamedExpression → Result X CheckFault → Type 0
+ReportsGet names sheet variable item components = Reports (variable_faults names variable ++ key_faults names sheet.items sheet.reads UndeclaredRead item components)
+
+-- the same of the faults of a put of an item: of the item's key, and then of its value
+abbrev pub ReportsItemPut : {X : Type 0} → List Text → Nameable → Name → List NamedExpression → NamedExpression → Result X CheckFault → Type 0
+ReportsItemPut names sheet item components value = Reports (key_faults names sheet.items sheet.item_puts UndeclaredPut item components ++ expression_faults names value)
+
+-- the same of the faults of a put of a tag: of the tag's key
+abbrev pub ReportsTagPut : {X : Type 0} → List Text → Nameable → Name → List NamedExpression → Result X CheckFault → Type 0
+ReportsTagPut names sheet tag components = Reports (key_faults names sheet.tags sheet.tag_puts UndeclaredPut tag components)
 
 -- the first statement of a block is the statement with names, whatever follows the two, and the sheet allows it
 pub record IsStatement (names : List Text) (sheet : Nameable) (statement : NamedBlock → NamedBlock) (first : Block) : Type 0 where
   pub resolves : (block : NamedBlock) (rest : Block) → IsBlock names sheet block rest → IsBlock names sheet (statement block) (with_rest first rest)
   pub keeps : (rest : Block) → KeepsTo sheet rest → KeepsTo sheet (with_rest first rest)
 
+-- the first statement of a block is this assignment, and any sheet allows it
+abbrev pub IsAssignment : List Text → Name → NamedExpression → Block → Type 0
+IsAssignment names variable value first = (sheet : Nameable) → IsStatement names sheet (Assign variable value) first
+
 -- the first statement of a block is the first statement of a block with names, and has no fault
 pub record IsFirstOf (names : List Text) (sheet : Nameable) (block : NamedBlock) (first : Block) : Type 0 where
   pub resolves : (rest : Block) → IsBlock names sheet (behind block) rest → IsBlock names sheet block (with_rest first rest)
   pub keeps : (rest : Block) → KeepsTo sheet rest → KeepsTo sheet (with_rest first rest)
   pub no_fault : block_faults names sheet block ≡ block_faults names sheet (behind block)
+
+-- if there is a value, then it is the first statement of the block, without a fault; otherwise the error is the block's first fault, or memory was refused
+abbrev pub ResolvesFirst : List Text → Nameable → NamedBlock → Result Block CheckFault → Type 0
+ResolvesFirst names sheet block result = MatchResult result (IsFirstOf names sheet block) (IsFirst (block_faults names sheet block))

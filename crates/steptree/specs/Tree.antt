@@ -1,43 +1,90 @@
--- Expressions and blocks as trees, wherever the boxes that hold their parts lie in memory.
-use Rattle.std.specs.Prelude.{◌+◌, ℕ, suc, ℤ, List}
+-- Expressions and blocks as trees, wherever the boxes that hold their parts lie in memory: with slots and numbers, or with names.
+use Rattle.std.specs.Prelude.{◌≡◌, ◌<◌, ◌+◌, ℕ, suc, ℤ, List, [], ◌∷◌}
+use Rattle.std.specs.Global.{Vec}
 use Rattle.terms.specs.declared.name.ItemCollection.{ItemCollection}
 use Rattle.terms.specs.declared.name.TagCollection.{TagCollection}
 use Rattle.steptree.specs.declared.expression.Operator.{Operator}
+use Rattle.steptree.specs.declared.step.Name.{Name}
 
--- an expression over the values of the variables, each by its slot
-pub data ExpressionTree : Type 0 where
-  Number : ℤ → ExpressionTree
-  Variable : ℕ → ExpressionTree
-  Negation : ExpressionTree → ExpressionTree
-  Operation : Operator → ExpressionTree → ExpressionTree → ExpressionTree
+-- an expression over the values of the variables
+pub data ExpressionTree (V : Type 0) : Type 0 where
+  Number : ℤ → ExpressionTree V
+  Variable : V → ExpressionTree V
+  Negation : ExpressionTree V → ExpressionTree V
+  Operation : Operator → ExpressionTree V → ExpressionTree V → ExpressionTree V
 
--- The statements of a block: the first, and as its last part the statements after it. Variables are slots.
-pub data BlockTree : Type 0 where
-  End : BlockTree
+-- The statements of a block: the first, and as its last part the statements after it. A variable is a `V`, a collection of items an `I`,
+-- a collection of tags a `T`, and the components of a key are a `C`.
+pub data BlockTree (V I T C : Type 0) : Type 0 where
+  End : BlockTree V I T C
   -- a variable gets the value
-  Assign : ℕ → ExpressionTree → BlockTree → BlockTree
+  Assign : V → ExpressionTree V → BlockTree V I T C → BlockTree V I T C
   -- the first block if the condition is not 0, else the second
-  If : ExpressionTree → BlockTree → BlockTree → BlockTree → BlockTree
+  If : ExpressionTree V → BlockTree V I T C → BlockTree V I T C → BlockTree V I T C → BlockTree V I T C
   -- the block once for each value of a variable, from the first number up to but not including the second
-  For : ℕ → ExpressionTree → ExpressionTree → BlockTree → BlockTree → BlockTree
+  For : V → ExpressionTree V → ExpressionTree V → BlockTree V I T C → BlockTree V I T C → BlockTree V I T C
   -- a variable gets the value of an item
-  Get : ℕ → ItemCollection → List ExpressionTree → BlockTree → BlockTree
-  PutItem : ItemCollection → List ExpressionTree → ExpressionTree → BlockTree → BlockTree
-  PutTag : TagCollection → List ExpressionTree → BlockTree → BlockTree
+  Get : V → I → C → BlockTree V I T C → BlockTree V I T C
+  PutItem : I → C → ExpressionTree V → BlockTree V I T C → BlockTree V I T C
+  PutTag : T → C → BlockTree V I T C → BlockTree V I T C
+
+-- with slots and numbers
+abbrev pub Expression : Type 0
+Expression = ExpressionTree ℕ
+
+abbrev pub Block : Type 0
+Block = BlockTree ℕ ItemCollection TagCollection (List Expression)
+
+-- with names
+abbrev pub NamedExpression : Type 0
+NamedExpression = ExpressionTree Name
+
+abbrev pub NamedBlock : Type 0
+NamedBlock = BlockTree Name Name Name (Vec NamedExpression)
 
 -- how many parts an expression has
-abbrev pub expression_size : ExpressionTree → ℕ
+abbrev pub expression_size : {V : Type 0} → ExpressionTree V → ℕ
 expression_size (Number number) = 1
-expression_size (Variable slot) = 1
+expression_size (Variable variable) = 1
 expression_size (Negation operand) = suc (expression_size operand)
 expression_size (Operation operator left right) = suc (expression_size left + expression_size right)
 
--- how many statements and ends of blocks it has
-abbrev pub block_size : BlockTree → ℕ
-block_size End = 1
-block_size (Assign variable value rest) = suc (block_size rest)
-block_size (If condition first second rest) = suc (block_size first + block_size second + block_size rest)
-block_size (For variable from to block rest) = suc (block_size block + block_size rest)
-block_size (Get variable collection components rest) = suc (block_size rest)
-block_size (PutItem collection components value rest) = suc (block_size rest)
-block_size (PutTag collection components rest) = suc (block_size rest)
+module _ {V I T C : Type 0} where
+  -- how many statements and ends of blocks it has
+  abbrev pub block_size : BlockTree V I T C → ℕ
+  block_size End = 1
+  block_size (Assign variable value rest) = suc (block_size rest)
+  block_size (If condition first second rest) = suc (block_size first + block_size second + block_size rest)
+  block_size (For variable from to block rest) = suc (block_size block + block_size rest)
+  block_size (Get variable collection components rest) = suc (block_size rest)
+  block_size (PutItem collection components value rest) = suc (block_size rest)
+  block_size (PutTag collection components rest) = suc (block_size rest)
+
+  -- the statements after the first
+  abbrev pub behind : BlockTree V I T C → BlockTree V I T C
+  behind End = End
+  behind (Assign variable value rest) = rest
+  behind (If condition first second rest) = rest
+  behind (For variable from to block rest) = rest
+  behind (Get variable collection components rest) = rest
+  behind (PutItem collection components value rest) = rest
+  behind (PutTag collection components rest) = rest
+
+  -- this is the block without its first statement, and is smaller
+  abbrev pub IsRest : BlockTree V I T C → BlockTree V I T C → Type 0
+  IsRest block rest = (rest ≡ behind block) × (block_size rest < block_size block)
+
+  -- the first statement, with these after it
+  abbrev pub with_rest : BlockTree V I T C → BlockTree V I T C → BlockTree V I T C
+  with_rest End rest = rest
+  with_rest (Assign variable value other) rest = Assign variable value rest
+  with_rest (If condition first second other) rest = If condition first second rest
+  with_rest (For variable from to block other) rest = For variable from to block rest
+  with_rest (Get variable collection components other) rest = Get variable collection components rest
+  with_rest (PutItem collection components value other) rest = PutItem collection components value rest
+  with_rest (PutTag collection components other) rest = PutTag collection components rest
+
+  -- the first statements of these blocks, one after another, with a block after them
+  abbrev pub joined : List (BlockTree V I T C) → BlockTree V I T C → BlockTree V I T C
+  joined [] block = block
+  joined (first ∷ others) block = with_rest first (joined others block)

@@ -5,8 +5,7 @@ use Rattle.terms.specs.declared.fault.FaultKind.{FaultKind}
 use Rattle.terms.specs.declared.fault.FaultKind.TheVariants.{Overflow, DivisionByZero}
 use Rattle.steptree.specs.declared.expression.Operator.{Operator}
 use Rattle.steptree.specs.declared.expression.Operator.TheVariants as operator
-use Rattle.steptree.specs.declared.expression.Expression.{Expression}
-use Rattle.steptree.specs.Tree.{Number, Variable, Negation, Operation}
+use Rattle.steptree.specs.Tree.{Expression, Number, Variable, Negation, Operation}
 
 -- whether the number fits in 64 bits, with its sign
 abbrev pub is_held : ℤ → Bool

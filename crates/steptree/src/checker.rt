@@ -1,8 +1,9 @@
-ghost use Rattle.std.specs.Prelude.{◌≡◌, ◌⊎◌, [], Some, IfOk, IfErr, OnOk, slice_get};
+ghost use Rattle.std.specs.Prelude.{◌≡◌, [], IfOk, IfErr, OnOk};
 ghost use Rattle.steptree.specs.CheckFaults.{faults_of, no_memory};
 ghost use Rattle.steptree.specs.Limits.{IsWithinLimits};
 ghost use Rattle.steptree.specs.Resolved.{Resolves};
 ghost use Rattle.steptree.specs.Sheet.{BodyKeepsTo};
+ghost use Rattle.steptree.specs.Statements.{IsFirst};
 
 mod expressions;
 mod names;
@@ -73,7 +74,7 @@ pub fn check(alloc: Global, step: &Step<'_>, sheet: &Sheet<'_>) -> Result<Checke
     ensures resolves { IfOk result (λ checked. Resolves sheet.now step.now checked) }
     ensures keeps { IfOk result (λ checked. BodyKeepsTo sheet.now checked.body) }
     ensures no_fault { OnOk result (faults_of sheet.now step.now ≡ []) }
-    ensures first { IfErr result (λ fault. (fault ≡ no_memory) ⊎ (slice_get (faults_of sheet.now step.now) 0 ≡ Some fault)) }
+    ensures first { IfErr result (IsFirst (faults_of sheet.now step.now)) }
 {
     let names = all_names(alloc, step)?;
     let read = resolve_block(alloc, &names, sheet, &step.read)?;

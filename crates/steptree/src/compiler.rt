@@ -1,12 +1,10 @@
 //! Makes bodies into code.
 //!
 //! Statements are compiled from the last to the first, so that each knows the place where it goes on.
-ghost use Rattle.std.specs.Prelude.{◌≡◌, ◌<◌, ℕ, IfOk, MatchOption};
-ghost use Rattle.steptree.specs.declared.block.Block.{Block};
-ghost use Rattle.steptree.specs.Tree.{End, block_size};
+ghost use Rattle.std.specs.Prelude.{◌≡◌, IfOk, MatchOption};
 ghost use Rattle.steptree.specs.Tree as tree;
 ghost use Rattle.steptree.specs.Executed.{Performs};
-ghost use Rattle.steptree.specs.Compiled.{Stands, IsCode, Keeps, remainder};
+ghost use Rattle.steptree.specs.Compiled.{Compiles, CompilesFirst, CompilesItemPut, CompilesLoop, IsCode, Keeps, Stands};
 
 mod formulas;
 
@@ -29,21 +27,6 @@ pub(crate) fn compile(alloc: Global, body: &Body) -> Result<Code, AllocError>
     })
 }
 
-// The statements after the first, unless there is none.
-fn rest_of(block: &Block) -> Option<&Block>
-    ensures { MatchOption result (block.now ≡ End) (λ rest. (rest.now ≡ remainder block.now) × (block_size rest.now < block_size block.now)) }
-{
-    match &block.first {
-        Statement::End => None,
-        Statement::Assign { rest, .. } => Some(rest),
-        Statement::If { rest, .. } => Some(rest),
-        Statement::For { rest, .. } => Some(rest),
-        Statement::Get { rest, .. } => Some(rest),
-        Statement::PutItem { rest, .. } => Some(rest),
-        Statement::PutTag { rest, .. } => Some(rest),
-    }
-}
-
 // Adds the code of a block that goes on at `stop`. The result is the place where it begins.
 #[cycle(compile)]
 fn compile_block(
@@ -57,7 +40,7 @@ fn compile_block(
 {
     let mut blocks = Vec::new(alloc);
     let mut left = block;
-    while let Some(rest) = rest_of(left) {
+    while let Some(rest) = left.rest() {
         blocks.reserve(1)?;
         blocks.push_reserved(left);
         left = rest;
@@ -77,7 +60,7 @@ fn compile_first(
     block: &Block,
     next: usize,
 ) -> Result<usize, AllocError>
-    ensures code { IfOk result (λ at. (stop : ℕ) → IsCode code.old.items next (remainder block.now) stop → IsCode code.new.items at block.now stop) }
+    ensures code { IfOk result (CompilesFirst block.now code.old.items next code.new.items) }
     ensures keeps { IfOk result (λ at. Keeps code.old.items code.new.items) }
 {
     match &block.first {
@@ -128,7 +111,7 @@ fn assign(
     value: &Expression,
     next: usize,
 ) -> Result<usize, AllocError>
-    ensures code { IfOk result (λ at. (rest : Block) (stop : ℕ) → IsCode code.old.items next rest stop → IsCode code.new.items at (tree.Assign variable value.now rest) stop) }
+    ensures code { IfOk result (Compiles (tree.Assign variable value.now) code.old.items next code.new.items) }
     ensures keeps { IfOk result (λ at. Keeps code.old.items code.new.items) }
 {
     let value = formula(alloc, value)?;
@@ -153,7 +136,7 @@ fn choose(
     second: &Block,
     next: usize,
 ) -> Result<usize, AllocError>
-    ensures code { IfOk result (λ at. (rest : Block) (stop : ℕ) → IsCode code.old.items next rest stop → IsCode code.new.items at (tree.If condition.now first.now second.now rest) stop) }
+    ensures code { IfOk result (Compiles (tree.If condition.now first.now second.now) code.old.items next code.new.items) }
     ensures keeps { IfOk result (λ at. Keeps code.old.items code.new.items) }
 {
     let first = compile_block(alloc, code, first, next)?;
@@ -181,7 +164,7 @@ fn repeat(
     block: &Block,
     after: usize,
 ) -> Result<usize, AllocError>
-    ensures code { IfOk result (λ at. (rest : Block) (stop : ℕ) → IsCode code.old.items after rest stop → IsCode code.new.items at (tree.For variable from.now to.now block.now rest) stop) }
+    ensures code { IfOk result (CompilesLoop variable from.now to.now block.now code.old.items after code.new.items) }
     ensures keeps { IfOk result (λ at. Keeps code.old.items code.new.items) }
 {
     let turn = push(code, Instruction::Turn)?;
@@ -211,7 +194,7 @@ fn get(
     components: &Components,
     next: usize,
 ) -> Result<usize, AllocError>
-    ensures code { IfOk result (λ at. (rest : Block) (stop : ℕ) → IsCode code.old.items next rest stop → IsCode code.new.items at (tree.Get variable collection components.now rest) stop) }
+    ensures code { IfOk result (Compiles (tree.Get variable collection components.now) code.old.items next code.new.items) }
     ensures keeps { IfOk result (λ at. Keeps code.old.items code.new.items) }
 {
     let components = copied_components(alloc, components)?;
@@ -236,7 +219,7 @@ fn put_item(
     value: &Expression,
     next: usize,
 ) -> Result<usize, AllocError>
-    ensures code { IfOk result (λ at. (rest : Block) (stop : ℕ) → IsCode code.old.items next rest stop → IsCode code.new.items at (tree.PutItem collection components.now value.now rest) stop) }
+    ensures code { IfOk result (CompilesItemPut collection components.now value.now code.old.items next code.new.items) }
     ensures keeps { IfOk result (λ at. Keeps code.old.items code.new.items) }
 {
     let components = copied_components(alloc, components)?;
@@ -261,7 +244,7 @@ fn put_tag(
     components: &Components,
     next: usize,
 ) -> Result<usize, AllocError>
-    ensures code { IfOk result (λ at. (rest : Block) (stop : ℕ) → IsCode code.old.items next rest stop → IsCode code.new.items at (tree.PutTag collection components.now rest) stop) }
+    ensures code { IfOk result (Compiles (tree.PutTag collection components.now) code.old.items next code.new.items) }
     ensures keeps { IfOk result (λ at. Keeps code.old.items code.new.items) }
 {
     let components = copied_components(alloc, components)?;

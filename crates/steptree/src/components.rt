@@ -13,14 +13,14 @@ pub struct Components {
 
 impl Model for Components {
     ghost use Rattle.std.specs.Prelude.{List, ◌≤◌, length};
-    ghost use Rattle.std.specs.Coded.{codes};
+    ghost use Rattle.std.specs.Coded.{coded_list, coded_ℕ};
     ghost use Rattle.terms.specs.declared.key.TheConstants.{MAX_COMPONENTS};
-    ghost use Rattle.steptree.specs.contracts.expression.Expression as expression;
-    ghost use Rattle.steptree.specs.declared.expression.Expression.{Expression};
+    ghost use Rattle.steptree.specs.Tree.{Expression};
+    ghost use Rattle.steptree.specs.CodesOfExpressions.{expression_code};
 
     ghost Value = { List Expression };
 
-    ghost coded = { Prim.hlevel (codes, expression.the_row.coded) };
+    ghost coded = { coded_list (expression_code coded_ℕ) };
 
     ghost view = { λ c. c.expressions.items };
 

@@ -17,30 +17,29 @@ pub enum Operator {
     GreaterOrEqual,
 }
 
-/// An expression over the values of the variables. Clauses see it as its tree.
+/// An expression over the values of the variables, each a `V`. Clauses see it as its tree.
 #[cycle(expression)]
-#[derive(Drop)]
-pub struct Expression {
-    pub node: Node,
+pub struct Expression<V = Slot> {
+    pub node: Node<V>,
 }
 
 /// The kind of an expression, with its operands.
 #[cycle(expression)]
 #[derive(Drop)]
-pub enum Node {
+pub enum Node<V = Slot> {
     Number(i64),
-    Variable(Slot),
-    Negation(Box<Expression>),
-    Operation(Operator, Box<(Expression, Expression)>),
+    Variable(V),
+    Negation(Box<Expression<V>>),
+    Operation(Operator, Box<(Expression<V>, Expression<V>)>),
 }
 
-impl Model for Expression {
+impl<V> Model for Expression<V> {
     ghost use Rattle.steptree.specs.Tree.{ExpressionTree, expression_size};
     ghost use Rattle.steptree.specs.CodesOfExpressions.{expression_code};
 
-    ghost Value = { ExpressionTree };
+    ghost Value = { ExpressionTree V };
 
-    ghost coded = { expression_code };
+    ghost coded = { expression_code V.code };
 
     ghost use Rattle.steptree.specs.SeenExpressions.{expression_seen};
 
@@ -51,4 +50,11 @@ impl Model for Expression {
     ghost use Rattle.std.proofs.Common.{arith};
 
     ghost size_decreases = { λ a h. Prim.grind (arith) };
+}
+
+impl<V: Drop> Drop for Expression<V> {
+    // Written by hand, so that dropping an expression is one call everywhere.
+    fn drop(self) {
+        let Expression { node: _ } = self;
+    }
 }

@@ -29,4 +29,4 @@ pub use laws::{
 };
 pub use sheet::{Declared, MOST_COLLECTIONS, Sheet};
 pub use slot::{MOST_NAMES, Slot};
-pub use step::{Name, NamedBlock, NamedExpression, NamedKey, Step};
+pub use step::{Name, NamedBlock, NamedExpression, Step};

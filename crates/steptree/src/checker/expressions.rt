@@ -1,15 +1,15 @@
 ghost use Rattle.std.specs.Prelude.{◌≡◌, ◌≤◌, length, IfOk};
 ghost use Rattle.terms.specs.declared.key.TheConstants.{MAX_COMPONENTS};
 ghost use Rattle.steptree.specs.declared.slot.TheConstants.{MOST_NAMES};
-ghost use Rattle.steptree.specs.CheckFaults.{expression_faults, component_faults, key_faults};
+ghost use Rattle.steptree.specs.CheckFaults.{expression_faults, component_faults};
 ghost use Rattle.steptree.specs.Limits.{AreFew};
-ghost use Rattle.steptree.specs.Resolved.{IsExpression, AreExpressions, IsKey};
+ghost use Rattle.steptree.specs.Resolved.{IsExpression, AreExpressions, ResolvesKey};
 ghost use Rattle.steptree.specs.Sheet.{IsAllowed};
-ghost use Rattle.steptree.specs.Statements.{texts, Reports};
+ghost use Rattle.steptree.specs.Statements.{texts, Reports, ReportsKey};
 
 use super::names::{number, slot};
 use crate::{
-    CheckError, CheckFault, Components, Declared, Expression, Name, NamedExpression, NamedKey, Node,
+    CheckError, CheckFault, Components, Declared, Expression, Name, NamedExpression, Node,
 };
 use std::alloc::Global;
 
@@ -23,20 +23,20 @@ pub(crate) fn resolve_expression(
     ensures resolves { IfOk result (IsExpression (texts names.now) expression.now) }
     ensures faults { Reports (expression_faults (texts names.now) expression.now) result }
 {
-    match expression {
-        NamedExpression::Number(number) => Ok(Expression {
+    match &expression.node {
+        Node::Number(number) => Ok(Expression {
             node: Node::Number(*number),
         }),
-        NamedExpression::Variable(name) => Ok(Expression {
+        Node::Variable(name) => Ok(Expression {
             node: Node::Variable(slot(names, name)?),
         }),
-        NamedExpression::Negation(operand) => {
+        Node::Negation(operand) => {
             let operand = resolve_expression(alloc, names, operand)?;
             Ok(Expression {
                 node: Node::Negation(Box::new(alloc, operand)?),
             })
         }
-        NamedExpression::Operation(operator, operands) => {
+        Node::Operation(operator, operands) => {
             let (left, right) = &**operands;
             let left = resolve_expression(alloc, names, left)?;
             let right = resolve_expression(alloc, names, right)?;
@@ -76,15 +76,16 @@ pub(crate) fn resolve_key(
     collections: &[Declared<'_>],
     allowed: &[bool],
     error: CheckError,
-    key: &NamedKey<'_>,
+    name: &Name<'_>,
+    components: &Vec<NamedExpression<'_>>,
 ) -> Result<(u16, Components), CheckFault>
     requires named { length names.now ≤ MOST_NAMES }
     requires few { AreFew collections.now }
-    ensures is_key { IfOk result (λ resolved. IsKey (texts names.now) collections.now key.now resolved.0 resolved.1) }
+    ensures is_key { IfOk result (ResolvesKey (texts names.now) collections.now name.now components.now.items) }
     ensures allowed { IfOk result (λ resolved. IsAllowed collections.now allowed.now resolved.0 (length resolved.1)) }
-    ensures faults { Reports (key_faults (texts names.now) collections.now allowed.now error key.now) result }
+    ensures faults { ReportsKey (texts names.now) collections.now allowed.now error name.now components.now.items result }
 {
-    let number = number(collections, allowed, error, key)?;
-    let components = resolve_components(alloc, names, &key.components)?;
+    let number = number(collections, allowed, error, name, components)?;
+    let components = resolve_components(alloc, names, components)?;
     Ok((number, components))
 }

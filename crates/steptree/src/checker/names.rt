@@ -1,13 +1,13 @@
 ghost use Rattle.std.specs.Prelude.{◌≡◌, ◌<◌, ◌≤◌, ◌++◌, length, map, Some, IfOk, IfSome, OnOk};
 ghost use Rattle.terms.specs.declared.key.TheConstants.{MAX_COMPONENTS};
 ghost use Rattle.steptree.specs.declared.slot.TheConstants.{MOST_NAMES};
-ghost use Rattle.steptree.specs.CheckFaults.{variable_faults, known_faults};
+ghost use Rattle.steptree.specs.CheckFaults.{variable_faults};
 ghost use Rattle.steptree.specs.Limits.{AreFew};
 ghost use Rattle.steptree.specs.Names.{place_of, slot_of, number_of};
 ghost use Rattle.steptree.specs.Sheet.{IsAllowed};
-ghost use Rattle.steptree.specs.Statements.{texts, Reports};
+ghost use Rattle.steptree.specs.Statements.{texts, Reports, ReportsUse};
 
-use crate::{CheckError, CheckFault, Declared, Name, NamedKey, Slot, Step};
+use crate::{CheckError, CheckFault, Declared, Name, NamedExpression, Slot, Step};
 use std::alloc::{AllocError, Global};
 
 /// A thing that has a text as its name.
@@ -88,23 +88,24 @@ pub(crate) fn number(
     collections: &[Declared<'_>],
     allowed: &[bool],
     error: CheckError,
-    key: &NamedKey<'_>,
+    name: &Name<'_>,
+    components: &[NamedExpression<'_>],
 ) -> Result<u16, CheckFault>
     requires { AreFew collections.now }
-    ensures number { IfOk result (λ number. number_of collections.now key.now.collection ≡ Some number) }
-    ensures allowed { IfOk result (λ number. IsAllowed collections.now allowed.now number (length key.now.components.items)) }
-    ensures short { OnOk result (length key.now.components.items ≤ MAX_COMPONENTS) }
-    ensures faults { Reports (known_faults collections.now allowed.now error key.now (number_of collections.now key.now.collection)) result }
+    ensures number { IfOk result (λ number. number_of collections.now name.now ≡ Some number) }
+    ensures allowed { IfOk result (λ number. IsAllowed collections.now allowed.now number (length components.now)) }
+    ensures short { OnOk result (length components.now ≤ MAX_COMPONENTS) }
+    ensures faults { ReportsUse collections.now allowed.now error name.now components.now result }
 {
-    match place(collections, key.collection.text) {
-        None => Err(at(&key.collection, CheckError::UnknownName)),
+    match place(collections, name.text) {
+        None => Err(at(name, CheckError::UnknownName)),
         Some(number) => {
             let collection = &collections[number];
             if number >= allowed.len() || !allowed[number] {
-                return Err(at(&key.collection, error));
+                return Err(at(name, error));
             }
-            if collection.components != key.components.len() {
-                return Err(at(&key.collection, CheckError::Arity));
+            if collection.components != components.len() {
+                return Err(at(name, CheckError::Arity));
             }
             Ok(number as u16)
         }

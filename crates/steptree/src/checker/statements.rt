@@ -1,20 +1,15 @@
-ghost use Rattle.std.specs.Prelude.{◌≡◌, ◌≤◌, ◌++◌, length, IfOk, MatchResult};
-ghost use Rattle.steptree.specs.Tree.{End};
-ghost use Rattle.steptree.specs.declared.checker.CheckError.TheVariants.{UndeclaredRead, UndeclaredPut};
+ghost use Rattle.std.specs.Prelude.{◌≤◌, length, IfOk};
+ghost use Rattle.steptree.specs.Tree.{If, For, Get, PutItem, PutTag};
 ghost use Rattle.steptree.specs.declared.slot.TheConstants.{MOST_NAMES};
-ghost use Rattle.steptree.specs.Nameable.{Nameable};
-ghost use Rattle.steptree.specs.declared.step.NamedBlock.TheVariants as named;
-ghost use Rattle.steptree.specs.CheckFaults.{variable_faults, expression_faults, key_faults, block_faults};
+ghost use Rattle.steptree.specs.CheckFaults.{block_faults};
 ghost use Rattle.steptree.specs.Limits.{AreFew};
 ghost use Rattle.steptree.specs.Resolved.{IsBlock};
 ghost use Rattle.steptree.specs.Sheet.{KeepsTo};
-ghost use Rattle.steptree.specs.Statements.{texts, Reports, IsFirst, IsFirstOf, IsStatement, with_rest, joined};
+ghost use Rattle.steptree.specs.Statements.{texts, Reports, ReportsAssignment, ReportsChoice, ReportsLoop, ReportsGet, ReportsItemPut, ReportsTagPut, IsStatement, IsAssignment, ResolvesFirst};
 
 use super::expressions::{resolve_expression, resolve_key};
 use super::names::slot;
-use crate::{
-    Block, CheckError, CheckFault, Name, NamedBlock, NamedExpression, NamedKey, Sheet, Statement,
-};
+use crate::{Block, CheckError, CheckFault, Name, NamedBlock, NamedExpression, Sheet, Statement};
 use std::alloc::Global;
 use terms::{ItemCollection, TagCollection};
 
@@ -26,8 +21,8 @@ fn assign(
     value: &NamedExpression<'_>,
 ) -> Result<Block, CheckFault>
     requires { length names.now ≤ MOST_NAMES }
-    ensures statement { IfOk result (λ first. (sheet : Nameable) (p : _) → IsStatement (texts names.now) sheet (named.Assign' variable.now value.now p) first) }
-    ensures faults { Reports (variable_faults (texts names.now) variable.now ++ expression_faults (texts names.now) value.now) result }
+    ensures statement { IfOk result (IsAssignment (texts names.now) variable.now value.now) }
+    ensures faults { ReportsAssignment (texts names.now) variable.now value.now result }
 {
     Ok(Block {
         first: Statement::Assign {
@@ -51,8 +46,8 @@ fn choose(
     requires named { length names.now ≤ MOST_NAMES }
     requires items { AreFew sheet.now.items }
     requires tags { AreFew sheet.now.tags }
-    ensures statement { IfOk result (λ block. (p q r : _) → IsStatement (texts names.now) sheet.now (named.If' condition.now p first.now q second.now r) block) }
-    ensures faults { Reports (expression_faults (texts names.now) condition.now ++ block_faults (texts names.now) sheet.now first.now ++ block_faults (texts names.now) sheet.now second.now) result }
+    ensures statement { IfOk result (IsStatement (texts names.now) sheet.now (If condition.now first.now second.now)) }
+    ensures faults { ReportsChoice (texts names.now) sheet.now condition.now first.now second.now result }
 {
     let condition = resolve_expression(alloc, names, condition)?;
     let first = resolve_block(alloc, names, sheet, first)?;
@@ -81,8 +76,8 @@ fn repeat(
     requires named { length names.now ≤ MOST_NAMES }
     requires items { AreFew sheet.now.items }
     requires tags { AreFew sheet.now.tags }
-    ensures statement { IfOk result (λ first. (p q : _) → IsStatement (texts names.now) sheet.now (named.For' variable.now from.now to.now p block.now q) first) }
-    ensures faults { Reports (variable_faults (texts names.now) variable.now ++ expression_faults (texts names.now) from.now ++ expression_faults (texts names.now) to.now ++ block_faults (texts names.now) sheet.now block.now) result }
+    ensures statement { IfOk result (IsStatement (texts names.now) sheet.now (For variable.now from.now to.now block.now)) }
+    ensures faults { ReportsLoop (texts names.now) sheet.now variable.now from.now to.now block.now result }
 {
     let variable = slot(names, variable)?;
     let from = resolve_expression(alloc, names, from)?;
@@ -105,16 +100,25 @@ fn get(
     names: &[Name<'_>],
     sheet: &Sheet<'_>,
     variable: &Name<'_>,
-    item: &NamedKey<'_>,
+    item: &Name<'_>,
+    components: &Vec<NamedExpression<'_>>,
 ) -> Result<Block, CheckFault>
     requires named { length names.now ≤ MOST_NAMES }
     requires items { AreFew sheet.now.items }
-    ensures statement { IfOk result (λ first. (p : _) → IsStatement (texts names.now) sheet.now (named.Get' variable.now item.now p) first) }
-    ensures faults { Reports (variable_faults (texts names.now) variable.now ++ key_faults (texts names.now) sheet.now.items sheet.now.reads UndeclaredRead item.now) result }
+    ensures statement { IfOk result (IsStatement (texts names.now) sheet.now (Get variable.now item.now components.now)) }
+    ensures faults { ReportsGet (texts names.now) sheet.now variable.now item.now components.now.items result }
 {
     let variable = slot(names, variable)?;
     let error = CheckError::UndeclaredRead;
-    let (number, components) = resolve_key(alloc, names, sheet.items, sheet.reads, error, item)?;
+    let (number, components) = resolve_key(
+        alloc,
+        names,
+        sheet.items,
+        sheet.reads,
+        error,
+        item,
+        components,
+    )?;
     Ok(Block {
         first: Statement::Get {
             variable,
@@ -130,13 +134,14 @@ fn put_item(
     alloc: Global,
     names: &[Name<'_>],
     sheet: &Sheet<'_>,
-    item: &NamedKey<'_>,
+    item: &Name<'_>,
+    components: &Vec<NamedExpression<'_>>,
     value: &NamedExpression<'_>,
 ) -> Result<Block, CheckFault>
     requires named { length names.now ≤ MOST_NAMES }
     requires items { AreFew sheet.now.items }
-    ensures statement { IfOk result (λ first. (p : _) → IsStatement (texts names.now) sheet.now (named.PutItem' item.now value.now p) first) }
-    ensures faults { Reports (key_faults (texts names.now) sheet.now.items sheet.now.item_puts UndeclaredPut item.now ++ expression_faults (texts names.now) value.now) result }
+    ensures statement { IfOk result (IsStatement (texts names.now) sheet.now (PutItem item.now components.now value.now)) }
+    ensures faults { ReportsItemPut (texts names.now) sheet.now item.now components.now.items value.now result }
 {
     let error = CheckError::UndeclaredPut;
     let (number, components) = resolve_key(
@@ -146,6 +151,7 @@ fn put_item(
         sheet.item_puts,
         error,
         item,
+        components,
     )?;
     let value = resolve_expression(alloc, names, value)?;
     Ok(Block {
@@ -163,16 +169,25 @@ fn put_tag(
     alloc: Global,
     names: &[Name<'_>],
     sheet: &Sheet<'_>,
-    tag: &NamedKey<'_>,
+    tag: &Name<'_>,
+    components: &Vec<NamedExpression<'_>>,
 ) -> Result<Block, CheckFault>
     requires named { length names.now ≤ MOST_NAMES }
     requires items { AreFew sheet.now.items }
     requires tags { AreFew sheet.now.tags }
-    ensures statement { IfOk result (λ first. (p : _) → IsStatement (texts names.now) sheet.now (named.PutTag' tag.now p) first) }
-    ensures faults { Reports (key_faults (texts names.now) sheet.now.tags sheet.now.tag_puts UndeclaredPut tag.now) result }
+    ensures statement { IfOk result (IsStatement (texts names.now) sheet.now (PutTag tag.now components.now)) }
+    ensures faults { ReportsTagPut (texts names.now) sheet.now tag.now components.now.items result }
 {
     let error = CheckError::UndeclaredPut;
-    let (number, components) = resolve_key(alloc, names, sheet.tags, sheet.tag_puts, error, tag)?;
+    let (number, components) = resolve_key(
+        alloc,
+        names,
+        sheet.tags,
+        sheet.tag_puts,
+        error,
+        tag,
+        components,
+    )?;
     Ok(Block {
         first: Statement::PutTag {
             collection: TagCollection(number),
@@ -193,31 +208,45 @@ fn resolve_first(
     requires named { length names.now ≤ MOST_NAMES }
     requires items { AreFew sheet.now.items }
     requires tags { AreFew sheet.now.tags }
-    ensures { MatchResult result (IsFirstOf (texts names.now) sheet.now block.now) (IsFirst (block_faults (texts names.now) sheet.now block.now)) }
+    ensures { ResolvesFirst (texts names.now) sheet.now block.now result }
 {
-    match block {
-        NamedBlock::End => Ok(Block::end()),
-        NamedBlock::Assign {
+    match &block.first {
+        Statement::End => Ok(Block::end()),
+        Statement::Assign {
             variable,
             value,
             ..
         } => assign(alloc, names, variable, value),
-        NamedBlock::If {
+        Statement::If {
             condition,
             first,
             second,
             ..
         } => choose(alloc, names, sheet, condition, first, second),
-        NamedBlock::For {
+        Statement::For {
             variable,
             from,
             to,
             block,
             ..
         } => repeat(alloc, names, sheet, variable, from, to, block),
-        NamedBlock::Get { variable, item, .. } => get(alloc, names, sheet, variable, item),
-        NamedBlock::PutItem { item, value, .. } => put_item(alloc, names, sheet, item, value),
-        NamedBlock::PutTag { tag, .. } => put_tag(alloc, names, sheet, tag),
+        Statement::Get {
+            variable,
+            collection,
+            components,
+            ..
+        } => get(alloc, names, sheet, variable, collection, components),
+        Statement::PutItem {
+            collection,
+            components,
+            value,
+            ..
+        } => put_item(alloc, names, sheet, collection, components, value),
+        Statement::PutTag {
+            collection,
+            components,
+            ..
+        } => put_tag(alloc, names, sheet, collection, components),
     }
 }
 
@@ -244,42 +273,14 @@ pub(crate) fn resolve_block(
         let first = resolve_first(alloc, names, sheet, left)?;
         statements.reserve(1)?;
         statements.push_reserved(first);
-        match left {
-            NamedBlock::End => return Ok(join(statements)),
-            NamedBlock::Assign { rest, .. } => left = rest,
-            NamedBlock::If { rest, .. } => left = rest,
-            NamedBlock::For { rest, .. } => left = rest,
-            NamedBlock::Get { rest, .. } => left = rest,
-            NamedBlock::PutItem { rest, .. } => left = rest,
-            NamedBlock::PutTag { rest, .. } => left = rest,
+        match &left.first {
+            Statement::End => return Ok(Block::join(statements)),
+            Statement::Assign { rest, .. } => left = rest,
+            Statement::If { rest, .. } => left = rest,
+            Statement::For { rest, .. } => left = rest,
+            Statement::Get { rest, .. } => left = rest,
+            Statement::PutItem { rest, .. } => left = rest,
+            Statement::PutTag { rest, .. } => left = rest,
         }
-    }
-}
-
-/// The first statements of these blocks, one after another.
-#[tactic(auto, using(crate::proofs::Joining::joined_last))]
-fn join(mut statements: Vec<Block>) -> Block
-    ensures { result ≡ joined statements.items End }
-{
-    let mut block = Block::end();
-    while let Some(mut statement) = statements.pop() {
-        put_behind(&mut statement, block);
-        block = statement;
-    }
-    block
-}
-
-/// Puts a block after the first statement of another, in place of what stood there.
-fn put_behind(statement: &mut Block, block: Block)
-    ensures { statement.new ≡ with_rest statement.old block }
-{
-    match &mut statement.first {
-        Statement::End => *statement = block,
-        Statement::Assign { rest, .. } => **rest = block,
-        Statement::If { rest, .. } => **rest = block,
-        Statement::For { rest, .. } => **rest = block,
-        Statement::Get { rest, .. } => **rest = block,
-        Statement::PutItem { rest, .. } => **rest = block,
-        Statement::PutTag { rest, .. } => **rest = block,
     }
 }

@@ -1,8 +1,8 @@
-use Rattle.std.proofs.Common.{◌≡◌, ◌++◌, ◌∷◌, [], ◌≤◌, rules, arith, sym, ap, subst, ◌∙◌, List}
+use Rattle.std.proofs.Common.{rules, arith, sym, subst, List}
 use Rattle.std.specs.Borrow.{Bor}
-use Rattle.steptree.specs.declared.block.Block.{Block}
-use Rattle.steptree.specs.Compiled.{IsCode, remainder}
-use Rattle.steptree.proofs.Coded.{IsChain, EndsIn, stays, keeps_on, chain_more, chain_last}
+use Rattle.steptree.specs.Tree.{Block}
+use Rattle.steptree.specs.Compiled.{IsCode}
+use Rattle.steptree.proofs.Coded.{IsChain, stays, keeps_on, chain_more, chain_last}
 use Rattle.steptree.proofs.compiler.+compile.Goals as goal
 
 pub choose-returns-clause-code : goal.choose-returns-clause-code

@@ -1,6 +1,5 @@
-use Rattle.std.proofs.Common.{◌+◌, ◌*◌, ◌≤◌, max, length}
-use Rattle.steptree.specs.declared.block.Block.{Block}
-use Rattle.steptree.specs.Tree.{block_size}
+use Rattle.std.proofs.Common.{◌+◌, ◌*◌, max, length}
+use Rattle.steptree.specs.Tree.{Block, block_size}
 use Rattle.steptree.specs.Compiled.{IsCode, Keeps}
 use Rattle.steptree.proofs.Coded.{IsChain}
 use Rattle.steptree.proofs.compiler.+compile.Given as goal

@@ -1,4 +1,4 @@
-use Rattle.std.proofs.Common.{◌≡◌, [], ◌∷◌, refl, sym}
+use Rattle.std.proofs.Common.{[], ◌∷◌, refl, sym}
 use Rattle.steptree.specs.declared.body.TheConstants.{BUDGET}
 use Rattle.steptree.specs.Bodies.{begun}
 use Rattle.steptree.proofs.Coded.{stays, keeps_on}

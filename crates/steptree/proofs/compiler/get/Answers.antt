@@ -1,4 +1,3 @@
-use Rattle.std.proofs.Common.{subst}
 use Rattle.steptree.proofs.Coded.{stays}
 use Rattle.steptree.proofs.compiler.get.Goals as goal
 

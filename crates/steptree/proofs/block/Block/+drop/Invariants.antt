@@ -4,4 +4,4 @@ use Rattle.steptree.proofs.block.Block.+drop.Given as goal
 
 -- what is left is no larger than the block was
 abbrev pub invariant-loop-rest : goal.invariant-loop-rest
-invariant-loop-rest l = block_size l.self ≤ block_size l.initial.self
+invariant-loop-rest g l = block_size l.self ≤ block_size l.initial.self
