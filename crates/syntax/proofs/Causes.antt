@@ -1,26 +1,18 @@
--- The causes of faults: the tokens after the one at which a verdict is reported do not change the verdict.
-use Rattle.std.proofs.Common.{◌≡◌, ◌≤◌, ◌⊎◌, inl, inr, ℕ, suc, List, [], ◌∷◌, length, take, drop, slice_get, Some, refl, sym, ap, subst, ◌∙◌, arith}
+-- The causes of faults: where the machine stops, and that the tokens after the one there do not change the verdict.
+use Rattle.std.proofs.Common.{◌≡◌, ◌≤◌, ◌⊎◌, inl, inr, ℕ, ◌+◌, zero, suc, List, [], ◌∷◌, length, take, drop, slice_get, Some, refl, sym, ap, subst, ◌∙◌, arith, length-drop}
+use Rattle.std.specs.Prelude.{⊤}
 use Rattle.syntax.specs.Tokens.{Spot, AreTokens, unknown}
 use Rattle.syntax.specs.Grammar.{Position, GraphText}
-use Rattle.syntax.specs.Spelled.{Derives}
 use Rattle.syntax.specs.Limits.{graph_limits, IsWithin}
 use Rattle.syntax.specs.Reading.{position_behind, IsSyntaxFault, IsLimitFault}
 use Rattle.syntax.specs.Expected.{Expected, Next, on, nothing_left, at_fault, limit_passed, next, ended, followed, Verdict, accepted, syntax, too_large, run, graph_expected}
-use Rattle.syntax.proofs.Tellings.{Telling, as_told, of_whole, run_so, same_run, run_on}
-use Rattle.syntax.proofs.Judged.{In, Judged, goes, breaks, judged_behind}
-use Rattle.syntax.proofs.JudgedGraphs.{graph_judged, graph_told}
+use Rattle.syntax.proofs.Tellings.{Telling, as_told, of_whole, run_so, same_run, run_on, as_the_machine}
+use Rattle.syntax.proofs.Judged.{In, Judged, goes, breaks}
+use Rattle.syntax.proofs.JudgedFillings.{graph_judged, graph_told}
 use Rattle.syntax.proofs.Lost.{TellsOnly, lost_tells}
-use Rattle.syntax.proofs.InFront.{BegunInFront, front_stays, LostAmong, LostFirst, lost_first}
-use Rattle.syntax.proofs.Filled.{AllBegins, AllSound, all_sound}
+use Rattle.syntax.proofs.InFront.{BegunInFront, front_stays, LostAmong, lost_first}
+use Rattle.syntax.proofs.Filled.{AllSound, all_sound}
 use Rattle.syntax.proofs.Completed.{Before, before_none, before_all, before_one, begins_graph}
-
--- these tokens begin with the `count` tokens before the fault and with the one at fault
-abbrev pub Alike : ℕ → List Spot → List Spot → Type 0
-Alike count others spots = take (suc count) others ≡ take (suc count) spots
-
-none_alike : (others : List Spot) → Alike 0 others [] → others ≡ []
-none_alike [] same = refl
-none_alike (spot ∷ others) same = absurd (cc)
 
 -- the first token is the same, and so are the next `count` ones
 next_alike : (count : ℕ) (spot : Spot) (spots others : List Spot) → take (suc count) others ≡ take (suc count) (spot ∷ spots) → (more : List Spot) × (others ≡ spot ∷ more) × (take count more ≡ take count spots)
@@ -30,197 +22,201 @@ next_alike count spot spots (first ∷ more) same =
     let behind : take count more ≡ take count spots = cc in
     (more, ap (λ (it : Spot). it ∷ more) is, behind)
 
-first_alike : (count : ℕ) (spot : Spot) (spots others : List Spot) → Alike (suc count) others (spot ∷ spots) → (more : List Spot) × (others ≡ spot ∷ more) × Alike count more spots
-first_alike count = next_alike (suc count)
+none_alike : (others : List Spot) → take 1 others ≡ [] → others ≡ []
+none_alike [] same = refl
+none_alike (spot ∷ others) same = absurd (cc)
 
-one_alike : (spot : Spot) (spots others : List Spot) → Alike 0 others (spot ∷ spots) → (more : List Spot) × (others ≡ spot ∷ more)
-one_alike spot spots others same = let first = next_alike 0 spot spots others same in (first.0, first.1)
+-- ---- where the machine stops
+
+-- so many more
+abbrev beyond : ℕ → ℕ → ℕ
+beyond zero more = more
+beyond (suc count) more = suc (beyond count more)
+
+sum_is : (count more : ℕ) → beyond count more ≡ count + more
+sum_is zero more = omega arith
+sum_is (suc count) more = omega (arith, sum_is count more)
+
+-- no token is taken
+abbrev Stuck : List Expected → List Spot → Type 0
+Stuck stack [] = ⊤
+Stuck stack (spot ∷ spots) = (after : List Expected) → next stack spot ≡ on after → ⊥
+
+-- the first `count` tokens are taken; there `now` may come, and the machine stops before `rest`. It comes there with all tokens that begin so.
+record Reached (stack : List Expected) (spots : List Spot) : Type 0 where
+  count : ℕ
+  now : List Expected
+  rest : List Spot
+  counted : count ≤ length spots
+  there : rest ≡ drop count spots
+  front : BegunInFront now
+  stuck : Stuck now rest
+  before : (more : ℕ) → Before now more rest → Before stack (beyond count more) spots
+  goes : (telling : Telling) (more : ℕ) (others : List Spot) → take (beyond count more) others ≡ take (beyond count more) spots → (later : List Spot) × (take more later ≡ take more rest) × (run_so telling stack others ≡ run_so telling now later)
+  told : run stack spots ≡ run now rest
+
+here : (stack : List Expected) (spots : List Spot) → BegunInFront stack → Stuck stack spots → Reached stack spots
+here stack spots front stuck = record {
+  count = 0;
+  now = stack;
+  rest = spots;
+  counted = search arith;
+  there = refl;
+  front = front;
+  stuck = stuck;
+  before = λ more before. before;
+  goes = λ telling more others same. (others, same, refl);
+  told = refl;
+}
+
+reached : (spots : List Spot) (stack : List Expected) → BegunInFront stack → Reached stack spots
+reached [] stack front = here stack [] front tt
+reached (spot ∷ spots) stack front = by (next stack spot) refl (λ after e. reached spots after (front_stays stack after spot front e))
+  where
+    by : (it : Next) → next stack spot ≡ it → ((after : List Expected) → next stack spot ≡ on after → Reached after spots) → Reached stack (spot ∷ spots)
+    by (on after) e further =
+        let inner = further after e in
+        record {
+          count = suc inner.count;
+          now = inner.now;
+          rest = inner.rest;
+          counted = omega (arith, inner.counted);
+          there = inner.there;
+          front = inner.front;
+          stuck = inner.stuck;
+          before = λ more before. before_one stack after spot spots (beyond inner.count more) e (inner.before more before);
+          goes = λ telling more others same.
+              let first = next_alike (beyond inner.count more) spot spots others same in
+              let later = inner.goes telling more first.0 first.2 in
+              (later.0, later.1, ap (run_so telling stack) first.1 ∙ run_on telling stack after spot first.0 e ∙ later.2);
+          told = ap (λ (it : Next). followed it (spot ∷ spots) (λ after. run after spots)) e ∙ inner.told;
+        }
+    by nothing_left e further = here stack (spot ∷ spots) front (λ after is. absurd (cc))
+    by at_fault e further = here stack (spot ∷ spots) front (λ after is. absurd (cc))
+    by (limit_passed place) e further = here stack (spot ∷ spots) front (λ after is. absurd (cc))
 
 -- ---- syntax
 
--- the `count` tokens before the one at fault were taken, and all tokens that begin like these have the fault too
-pub record Broken (stack : List Expected) (spots rest : List Spot) : Type 0 where
-  pub count : ℕ
-  pub counted : count ≤ length spots
-  pub there : rest ≡ drop count spots
-  pub before : Before stack count spots
-  pub too : (others : List Spot) → Alike count others spots → (later : List Spot) × (run stack others ≡ syntax later)
-
-behind : (spot : Spot) (spots : List Spot) (stack : List Expected) (rest : List Spot) (it : Next) → next stack spot ≡ it → run stack (spot ∷ spots) ≡ syntax rest
-    → ((after : List Expected) → run after spots ≡ syntax rest → Broken after spots rest) → Broken stack (spot ∷ spots) rest
-behind spot spots stack rest (on after) e is further =
-    let inner = further after (sym (ap (λ (it : Next). followed it (spot ∷ spots) (λ after. run after spots)) e) ∙ is) in
-    record {
-      count = suc inner.count;
-      counted = omega (arith, inner.counted);
-      there = inner.there;
-      before = before_one stack after spot spots inner.count e inner.before;
-      too = λ others same.
-          let more = first_alike inner.count spot spots others same in
-          let later = inner.too more.0 more.2 in
-          (later.0, ap (run stack) more.1 ∙ ap (λ (it : Next). followed it (spot ∷ more.0) (λ after. run after more.0)) e ∙ later.1);
-    }
-behind spot spots stack rest nothing_left e is further =
-    let told : syntax (spot ∷ spots) ≡ syntax rest = sym (ap (λ (it : Next). followed it (spot ∷ spots) (λ after. run after spots)) e) ∙ is in
-    record {
-      count = 0;
-      counted = search arith;
-      there = cc;
-      before = before_none stack (spot ∷ spots);
-      too = λ others same.
-          let more = one_alike spot spots others same in
-          (spot ∷ more.0, ap (run stack) more.1 ∙ ap (λ (it : Next). followed it (spot ∷ more.0) (λ after. run after more.0)) e);
-    }
-behind spot spots stack rest at_fault e is further =
-    let told : syntax (spot ∷ spots) ≡ syntax rest = sym (ap (λ (it : Next). followed it (spot ∷ spots) (λ after. run after spots)) e) ∙ is in
-    record {
-      count = 0;
-      counted = search arith;
-      there = cc;
-      before = before_none stack (spot ∷ spots);
-      too = λ others same.
-          let more = one_alike spot spots others same in
-          (spot ∷ more.0, ap (run stack) more.1 ∙ ap (λ (it : Next). followed it (spot ∷ more.0) (λ after. run after more.0)) e);
-    }
-behind spot spots stack rest (limit_passed place) e is further =
-    let told : too_large place ≡ syntax rest = sym (ap (λ (it : Next). followed it (spot ∷ spots) (λ after. run after spots)) e) ∙ is in
-    absurd (cc)
-
-nowhere : (rest : List Spot) (it : Next) → ended it ≡ syntax rest → rest ≡ []
-nowhere rest (on after) told = cc
-nowhere rest nothing_left told = cc
-nowhere rest at_fault told = cc
-nowhere rest (limit_passed place) told = absurd (cc)
-
-pub broken : (spots : List Spot) (stack : List Expected) (rest : List Spot) → run stack spots ≡ syntax rest → Broken stack spots rest
-broken [] stack rest is = record {
-  count = 0;
-  counted = search arith;
-  there = nowhere rest (next stack (unknown, 0)) is;
-  before = before_none stack [];
-  too = λ others same. (rest, ap (run stack) (none_alike others same) ∙ is);
-}
-broken (spot ∷ spots) stack rest is = behind spot spots stack rest (next stack spot) refl is (λ after. broken spots after rest)
+-- there the tokens break off, and so do all that go on with the same one
+broken : (now : List Expected) (rest spots : List Spot) → Stuck now rest → run now rest ≡ syntax spots → (spots ≡ rest) × ((others : List Spot) → take 1 others ≡ take 1 rest → (later : List Spot) × (run now others ≡ syntax later))
+broken now [] spots stuck is = (nowhere (next now (unknown, 0)) is, λ others same. (spots, ap (run now) (none_alike others same) ∙ is))
+  where
+    nowhere : (it : Next) → ended it ≡ syntax spots → spots ≡ []
+    nowhere (on after) told = cc
+    nowhere nothing_left told = cc
+    nowhere at_fault told = cc
+    nowhere (limit_passed place) told = absurd (cc)
+broken now (spot ∷ more) spots stuck is = by (next now spot) refl is
+  where
+    by : (it : Next) → next now spot ≡ it → followed it (spot ∷ more) (λ after. run after more) ≡ syntax spots
+        → (spots ≡ spot ∷ more) × ((others : List Spot) → take 1 others ≡ take 1 (spot ∷ more) → (later : List Spot) × (run now others ≡ syntax later))
+    by (on after) e told = absurd (stuck after e)
+    by (limit_passed place) e told = absurd (cc)
+    by nothing_left e told = (
+      cc,
+      λ others same.
+          let first = next_alike 0 spot more others same in
+          (spot ∷ first.0, ap (run now) first.1 ∙ ap (λ (it : Next). followed it (spot ∷ first.0) (λ after. run after first.0)) e),
+    )
+    by at_fault e told = (
+      cc,
+      λ others same.
+          let first = next_alike 0 spot more others same in
+          (spot ∷ first.0, ap (run now) first.1 ∙ ap (λ (it : Next). followed it (spot ∷ first.0) (λ after. run after first.0)) e),
+    )
 
 pub syntax_cause : (text : List ℕ) (spots rest : List Spot) → AreTokens 0 text spots → run graph_expected spots ≡ syntax rest
     → (count : ℕ) × (count ≤ length spots) × (rest ≡ drop count spots) × IsSyntaxFault text (position_behind text spots count)
 syntax_cause text spots rest tokens is =
-    let fault = broken spots graph_expected rest is in (
-      fault.count,
-      fault.counted,
-      fault.there,
+    let it = reached spots graph_expected refl in
+    let fault = broken it.now it.rest rest it.stuck (sym it.told ∙ is) in
+    let none_more : beyond it.count 0 ≡ it.count = omega (arith, sum_is it.count 0) in
+    let one_more : suc it.count ≡ beyond it.count 1 = omega (arith, sum_is it.count 1) in (
+      it.count,
+      it.counted,
+      fault.0 ∙ it.there,
       record {
         spots = spots;
         tokens = tokens;
-        count = fault.count;
-        counted = fault.counted;
+        count = it.count;
+        counted = it.counted;
         there = refl;
-        before = begins_graph fault.count spots fault.before;
-        none = λ goes_on. never goes_on.0 goes_on.1 goes_on.2 (fault.too goes_on.1 goes_on.3);
-        told = is ∙ ap syntax fault.there;
+        before = begins_graph it.count spots (subst (λ (count : ℕ). Before graph_expected count spots) none_more (it.before 0 (before_none it.now it.rest)));
+        none = λ goes_on.
+            let later = it.goes as_told 1 goes_on.1 (subst (λ (count : ℕ). take count goes_on.1 ≡ take count spots) one_more goes_on.3) in
+            never goes_on.0 goes_on.1 later.0 it.now later.2 (fault.1 later.0 later.1) (graph_told goes_on.0 goes_on.1 goes_on.2);
+        told = is ∙ ap syntax (fault.0 ∙ it.there);
       },
     )
   where
-    refuted : (graph : GraphText) (others later : List Spot) → run graph_expected others ≡ syntax later → Judged (graph_limits graph) (run graph_expected others) accepted → ⊥
-    refuted graph others later told (goes none same) = cc
-    refuted graph others later told (breaks place there same) = cc
-
-    never : (graph : GraphText) (others : List Spot) → Derives graph others → (later : List Spot) × (run graph_expected others ≡ syntax later) → ⊥
-    never graph others derives told = refuted graph others told.0 told.1 (graph_told graph others derives)
+    never : (graph : GraphText) (others later : List Spot) (now : List Expected) → run_so as_told graph_expected others ≡ run_so as_told now later → (rest : List Spot) × (run now later ≡ syntax rest)
+        → Judged (graph_limits graph) (run graph_expected others) accepted → ⊥
+    never graph others later now same broken judged = by broken.0 (as_the_machine others later graph_expected now same ∙ broken.1) judged
+      where
+        by : (rest : List Spot) → run graph_expected others ≡ syntax rest → Judged (graph_limits graph) (run graph_expected others) accepted → ⊥
+        by rest told (goes none same) = cc
+        by rest told (breaks place there same) = cc
 
 -- ---- limits
 
--- for any limits: if the machine, under each `telling`, accepts these tokens with no limit or reports one of them, this place is one of them
-abbrev pub Passes : List Expected → Position → List Spot → Type 0
-Passes stack place spots = (limits : List Position) → ((telling : Telling) → Judged limits (run_so telling stack spots) accepted) → In place limits
+-- so many more tokens begin what may come, and with all that begin so the machine, under some telling, reports this limit alone
+record Limited (now : List Expected) (rest : List Spot) (place : Position) : Type 0 where
+  more : ℕ
+  few : more ≤ length rest
+  begins : Before now more rest
+  telling : Telling
+  only : (others : List Spot) → take more others ≡ take more rest → TellsOnly place (run_so telling now others)
 
--- the first `count` tokens begin what may come, and all tokens that begin with them pass the limit
-pub record Limited (stack : List Expected) (spots : List Spot) (place : Position) : Type 0 where
-  pub count : ℕ
-  pub counted : count ≤ length spots
-  pub begins : Before stack count spots
-  pub pass : (others : List Spot) → take count others ≡ take count spots → Passes stack place others
+-- no more tokens are needed, after those of an expression that is lost
+lost_here : (now : List Expected) (rest : List Spot) (place : Position) → BegunInFront now → LostAmong place now → Limited now rest place
+lost_here now rest place front among =
+    let lost = lost_first place now front among in
+    record {
+      more = 0;
+      few = search arith;
+      begins = before_none now rest;
+      telling = of_whole lost.lost.0;
+      only = λ others same. subst (λ (it : List Expected). TellsOnly place (run_so (of_whole lost.lost.0) it others)) (sym lost.whole) (lost_tells others lost.lost.0 place lost.first lost.rest lost.lost.1);
+    }
+
+same_place : (other place : Position) → too_large other ≡ too_large place → other ≡ place
+same_place other place e = cc
+
+limited : (now : List Expected) (rest : List Spot) (place : Position) → BegunInFront now → Stuck now rest → run now rest ≡ too_large place → Limited now rest place
+limited now [] place front stuck is = lost_here now [] place front (at_end (next now (unknown, 0)) (all_sound now (unknown, 0)) is)
+  where
+    at_end : (it : Next) → AllSound now (unknown, 0) it → ended it ≡ too_large place → LostAmong place now
+    at_end (on after) sound told = absurd (cc)
+    at_end nothing_left sound told = absurd (cc)
+    at_end at_fault sound told = absurd (cc)
+    at_end (limit_passed other) (inl it) told = absurd (it.known refl)
+    at_end (limit_passed other) (inr lost) told = subst (λ (at : Position). LostAmong at now) (same_place other place told) lost
+limited now (spot ∷ spots) place front stuck is = by (next now spot) refl (all_sound now spot) is
+  where
+    only_here : (other : Position) → next now spot ≡ limit_passed other → other ≡ place → (others : List Spot) → take 1 others ≡ take 1 (spot ∷ spots) → TellsOnly place (run_so as_told now others)
+    only_here other e same others alike =
+        let first = next_alike 0 spot spots others alike in
+        let told = same_run others now ∙ ap (run now) first.1 ∙ ap (λ (it : Next). followed it (spot ∷ first.0) (λ after. run after first.0)) e in
+        subst (TellsOnly place) (sym told) same
+
+    by : (it : Next) → next now spot ≡ it → AllSound now spot it → followed it (spot ∷ spots) (λ after. run after spots) ≡ too_large place → Limited now (spot ∷ spots) place
+    by (on after) e sound told = absurd (stuck after e)
+    by nothing_left e sound told = absurd (cc)
+    by at_fault e sound told = absurd (cc)
+    by (limit_passed other) e (inl it) told = record {
+      more = 1;
+      few = search arith;
+      begins = before_all now it.after spot spots 0 it.begun (before_none it.after spots);
+      telling = as_told;
+      only = only_here other e (same_place other place told);
+    }
+    by (limit_passed other) e (inr lost) told = lost_here now (spot ∷ spots) place front (subst (λ (at : Position). LostAmong at now) (same_place other place told) lost)
 
 told_only : (place : Position) (limits : List Position) (verdict : Verdict) → TellsOnly place verdict → Judged limits verdict accepted → In place limits
 told_only place limits verdict only (goes none same) = absurd (subst (TellsOnly place) same only)
 told_only place limits verdict only (breaks other there same) =
     let is : other ≡ place = subst (TellsOnly place) same only in
     subst (λ (it : Position). In it limits) is there
-
--- no more tokens are needed, after those of an expression that is lost
-limited_here : (stack : List Expected) (spots : List Spot) (place : Position) → LostFirst place stack → Limited stack spots place
-limited_here stack spots place lost = record {
-  count = 0;
-  counted = search arith;
-  begins = before_none stack spots;
-  pass = λ others same limits judged.
-      told_only place limits (run_so (of_whole lost.lost.0) stack others)
-      (subst (λ (it : List Expected). TellsOnly place (run_so (of_whole lost.lost.0) it others)) (sym lost.whole) (lost_tells others lost.lost.0 place lost.first lost.rest lost.lost.1))
-      (judged (of_whole lost.lost.0));
-}
-
--- the first token begins what may come
-limited_at : (stack : List Expected) (spot : Spot) (spots : List Spot) (place : Position) → ((others : List Spot) → Alike 0 others (spot ∷ spots) → run stack others ≡ too_large place) → AllBegins stack spot
-    → Limited stack (spot ∷ spots) place
-limited_at stack spot spots place too it = record {
-  count = 1;
-  counted = search arith;
-  begins = before_all stack it.after spot spots 0 it.begun (before_none it.after spots);
-  pass = λ others same limits judged. told_only place limits (run_so as_told stack others) (only others (same_run others stack ∙ too others same)) (judged as_told);
-}
-  where
-    only : (others : List Spot) → run_so as_told stack others ≡ too_large place → TellsOnly place (run_so as_told stack others)
-    only others is = subst (TellsOnly place) (sym is) refl
-
-behind_taken : (spot : Spot) (spots : List Spot) (stack : List Expected) (place : Position) (after : List Expected) → next stack spot ≡ on after → Limited after spots place → Limited stack (spot ∷ spots) place
-behind_taken spot spots stack place after e inner = record {
-  count = suc inner.count;
-  counted = omega (arith, inner.counted);
-  begins = before_one stack after spot spots inner.count e inner.begins;
-  pass = λ others same limits judged.
-      let more = next_alike inner.count spot spots others same in
-      inner.pass more.0 more.2 limits (λ telling. judged_behind (sym (ap (run_so telling stack) more.1 ∙ run_on telling stack after spot more.0 e)) (judged telling));
-}
-
-same_place : (other place : Position) → too_large other ≡ too_large place → other ≡ place
-same_place other place e = cc
-
-limit_behind : (spot : Spot) (spots : List Spot) (stack : List Expected) (place : Position) (it : Next) → next stack spot ≡ it → BegunInFront stack → AllSound stack spot it → run stack (spot ∷ spots) ≡ too_large place
-    → ((after : List Expected) → next stack spot ≡ on after → run after spots ≡ too_large place → Limited after spots place) → Limited stack (spot ∷ spots) place
-limit_behind spot spots stack place (on after) e front sound is further =
-    behind_taken spot spots stack place after e (further after e (sym (ap (λ (it : Next). followed it (spot ∷ spots) (λ after. run after spots)) e) ∙ is))
-limit_behind spot spots stack place nothing_left e front sound is further =
-    let told : syntax (spot ∷ spots) ≡ too_large place = sym (ap (λ (it : Next). followed it (spot ∷ spots) (λ after. run after spots)) e) ∙ is in
-    absurd (cc)
-limit_behind spot spots stack place at_fault e front sound is further =
-    let told : syntax (spot ∷ spots) ≡ too_large place = sym (ap (λ (it : Next). followed it (spot ∷ spots) (λ after. run after spots)) e) ∙ is in
-    absurd (cc)
-limit_behind spot spots stack place (limit_passed other) e front sound is further = by sound
-  where
-    told : too_large other ≡ too_large place
-    told = sym (ap (λ (it : Next). followed it (spot ∷ spots) (λ after. run after spots)) e) ∙ is
-
-    too : (others : List Spot) → Alike 0 others (spot ∷ spots) → run stack others ≡ too_large place
-    too others same =
-        let more = one_alike spot spots others same in
-        ap (run stack) more.1 ∙ ap (λ (it : Next). followed it (spot ∷ more.0) (λ after. run after more.0)) e ∙ told
-
-    by : AllSound stack spot (limit_passed other) → Limited stack (spot ∷ spots) place
-    by (inl it) = limited_at stack spot spots place too it
-    by (inr lost) = limited_here stack (spot ∷ spots) place (lost_first place stack front (subst (λ (at : Position). LostAmong at stack) (same_place other place told) lost))
-
-limit_at_end : (stack : List Expected) (place : Position) (it : Next) → AllSound stack (unknown, 0) it → ended it ≡ too_large place → LostAmong place stack
-limit_at_end stack place (on after) sound told = absurd (cc)
-limit_at_end stack place nothing_left sound told = absurd (cc)
-limit_at_end stack place at_fault sound told = absurd (cc)
-limit_at_end stack place (limit_passed other) (inl it) told = absurd (it.known refl)
-limit_at_end stack place (limit_passed other) (inr lost) told = subst (λ (at : Position). LostAmong at stack) (same_place other place told) lost
-
-pub limited : (spots : List Spot) (stack : List Expected) (place : Position) → BegunInFront stack → run stack spots ≡ too_large place → Limited stack spots place
-limited [] stack place front is =
-    limited_here stack [] place (lost_first place stack front (limit_at_end stack place (next stack (unknown, 0)) (all_sound stack (unknown, 0)) is))
-limited (spot ∷ spots) stack place front is =
-    limit_behind spot spots stack place (next stack spot) refl front (all_sound stack spot) is (λ after e told. limited spots after place (front_stays stack after spot front e) told)
 
 pub found : (place : Position) (places : List Position) → In place places → (i : ℕ) × (slice_get places i ≡ Some place)
 found place [] there = absurd there
@@ -229,14 +225,17 @@ found place (first ∷ more) (inr there) = let later = found place more there in
 
 pub limit_cause : (text : List ℕ) (spots : List Spot) (place : ℕ) → AreTokens 0 text spots → run graph_expected spots ≡ too_large place → IsLimitFault text place
 limit_cause text spots place tokens is =
-    let fault = limited spots graph_expected place refl is in
+    let it = reached spots graph_expected refl in
+    let fault = limited it.now it.rest place it.front it.stuck (sym it.told ∙ is) in
     record {
       spots = spots;
       tokens = tokens;
-      count = fault.count;
-      counted = fault.counted;
-      begins = begins_graph fault.count spots fault.begins;
-      pass = λ graph others derives same. found place (graph_limits graph) (fault.pass others same (graph_limits graph) (graph_judged graph others derives));
+      count = beyond it.count fault.more;
+      counted = omega (arith, sum_is it.count fault.more, it.counted, fault.few, ap length it.there, length-drop it.count spots);
+      begins = begins_graph (beyond it.count fault.more) spots (it.before fault.more fault.begins);
+      pass = λ graph others derives same.
+          let later = it.goes fault.telling fault.more others same in
+          found place (graph_limits graph) (told_only place (graph_limits graph) (run_so fault.telling graph_expected others) (subst (TellsOnly place) (sym later.2) (fault.only later.0 later.1)) (graph_judged graph others derives fault.telling));
       told = is;
     }
 

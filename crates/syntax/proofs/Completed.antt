@@ -2,18 +2,15 @@
 use Rattle.std.proofs.Common.{◌≡◌, ℕ, suc, codes, List, [], ◌∷◌, ◌++◌, take, None, refl, sym, ap, subst}
 use Rattle.std.proofs.lemmas.List.{append-nil}
 use Rattle.syntax.specs.declared.token.Symbol.TheVariants as sign
-use Rattle.syntax.specs.declared.token.Word.TheVariants as kept
-use Rattle.syntax.specs.Tokens.{name, number, word, symbol, Spot}
-use Rattle.syntax.specs.Grammar.{Position, Named, Names, sum_alone, compared, Sum, prod_alone, Prod, unary_alone, literal, bracketed, no_sums, no_more, Key, put_tag, environment_gets, GraphText}
+use Rattle.syntax.specs.Tokens.{number, symbol, Spot}
+use Rattle.syntax.specs.Grammar.{Position, Named, Names, sum_alone, compared, Sum, prod_alone, Prod, unary_alone, literal, bracketed, no_sums, no_more, put_tag, GraphText}
 use Rattle.syntax.specs.Reading.{CanGoOn}
-use Rattle.syntax.specs.Spelled.{Piece, plain, at, ArePieces, tag_pieces, graph_pieces}
-use Rattle.syntax.specs.Expected.{Comparing, never, possible, behind_left, Level, Expression, level_expr, without_product, product_behind, closed, Kind, item, tag, Expected, Next, on, next, graph_expected}
+use Rattle.syntax.specs.Spelled.{Piece, plain, at, ArePieces, graph_pieces}
+use Rattle.syntax.specs.Expected.{Comparing, never, possible, behind_left, Level, Expression, level_expr, without_product, product_behind, closed, item, Expected, Next, on, next, graph_expected}
 use Rattle.syntax.specs.Expected.{exactly, keyword, a_name, whole, operand, behind_operand, components, more_components, statements, nested_brace, or_else, put_target, declarations, front, front_named, front_closed}
 use Rattle.syntax.specs.Expected.{component_name, behind_component, relations, reader, related, steps, step_name, parameters, parameter, behind_parameter, variables, step_variable, behind_variable}
-use Rattle.syntax.proofs.Fillings.{Whole, Filling, Fillings, fillings_pieces}
-use Rattle.syntax.proofs.FilledExpressions.{sound_operand, ends_here, closing_ends}
-use Rattle.syntax.proofs.FilledRelations.{sound_related}
-use Rattle.syntax.proofs.FilledGraphs.{sound_front, closes_front, declared_without}
+use Rattle.syntax.proofs.Fillings.{◌▸◌, declares, closes, Whole, Filling, Fillings, fillings_pieces}
+use Rattle.syntax.proofs.FilledExpressions.{operand_read, ends_here, closing_ends}
 use Rattle.syntax.proofs.Filled.{AllBegun, AllSound, all_sound}
 
 -- ---- each thing has a filling
@@ -41,33 +38,10 @@ some_closing (around ∷ outer) state prod same =
     record { rest = plain (symbol sign.CloseRound) ∷ (more.rest ++ []); makes = closing_ends state around.0 around.1 outer prod more.rest same more.makes }
 
 some_operand : (state : Expression) → Filling (operand state)
-some_operand state =
-    let begun = sound_operand state (number 0) 0 (record { first = some_closing state.outer (without_product state) (product_behind state (literal 0 0)) refl; rest = tt }) in
-    begun.made.filling
-
-some_put : Filling put_target
-some_put =
-    let key : Key = record { collection = a_named; components = no_sums } in
-    record { rest = tag_pieces key ++ plain (symbol sign.Semicolon) ∷ []; makes = record { put = put_tag key; spelled = refl } }
+some_operand state = operand_read state (some_closing state.outer (without_product state) (product_behind state (literal 0 0)) refl)
 
 some_graph : GraphText
 some_graph = record { declarations = []; relations = []; steps = [] }
-
-some_closed : (kind : Kind) (items tags : ℕ) (place : Position) → Filling (front_closed kind items tags place)
-some_closed item items tags place = let begun = declared_without item items tags place 0 (record { first = some_graph; rest = tt }) in begun.made.filling
-some_closed tag items tags place = let begun = declared_without tag items tags place 0 (record { first = some_graph; rest = tt }) in begun.made.filling
-
-some_named : (kind : Kind) (items tags : ℕ) (place : Position) → Filling (front_named kind items tags place)
-some_named kind items tags place = let begun = closes_front kind items tags place 0 (record { first = some_closed kind items tags place; rest = tt }) in begun.made.filling
-
-some_front : (kind : Kind) (items tags : ℕ) → Filling (front kind items tags)
-some_front kind items tags = let begun = sound_front kind items tags (name (codes "x")) 0 (record { first = some_named kind items tags 0; rest = tt }) in begun.made.filling
-
-some_reader : Filling reader
-some_reader = record { rest = plain (word kept.Env) ∷ []; makes = λ position it. record { relation = environment_gets position it; spelled = refl } }
-
-some_related : Filling related
-some_related = let begun = sound_related (symbol sign.OpenBracket) 0 (record { first = a_named; rest = record { first = tt; rest = tt } }) in begun.made.filling
 
 some : (first : Expected) → Filling first
 some (exactly it) = tt
@@ -81,16 +55,16 @@ some more_components = []
 some (statements part around) = no_more
 some (nested_brace around) = 0
 some (or_else part around) = None
-some put_target = some_put
+some put_target = put_tag (record { collection = a_named; components = no_sums })
 some (declarations items tags) = some_graph
-some (front kind items tags) = some_front kind items tags
-some (front_named kind items tags place) = some_named kind items tags place
-some (front_closed kind items tags place) = some_closed kind items tags place
+some (front kind items tags) = a_named ▸ closes (declares some_graph)
+some (front_named kind items tags place) = closes (declares some_graph)
+some (front_closed kind items tags place) = declares some_graph
 some (component_name before) = some_names
 some (behind_component before) = []
 some relations = record { relations = []; steps = [] }
-some reader = some_reader
-some related = some_related
+some reader = None
+some related = item ▸ a_named
 some (steps before) = []
 some (step_name before) = a_named
 some parameters = record { parameters = None; variables = None }

@@ -1,15 +1,12 @@
 -- Places at which limits are passed, in another order.
 use Rattle.std.proofs.Common.{◌≡◌, ◌⊎◌, inl, inr, List, [], ◌∷◌, ◌++◌, refl, sym, ap, subst, ◌∙◌}
 use Rattle.std.proofs.lemmas.List.{append_assoc}
-use Rattle.syntax.specs.Tokens.{Lexeme}
 use Rattle.syntax.specs.Grammar.{Position}
-use Rattle.syntax.specs.Spelled.{Piece}
-use Rattle.syntax.specs.Expected.{Expected}
-use Rattle.syntax.proofs.Judged.{In, in_front, in_back, judged_among, Comes}
+use Rattle.syntax.proofs.Judged.{In, in_front, in_back}
 
-pub both_none : (a b : List Position) → a ++ b ≡ [] → (a ≡ []) × (b ≡ [])
+pub both_none : {X : Type 0} (a b : List X) → a ++ b ≡ [] → (a ≡ []) × (b ≡ [])
 both_none [] b none = (refl, none)
-both_none (place ∷ a) b none = absurd (cc)
+both_none (x ∷ a) b none = absurd (cc)
 
 pub in_either : (place : Position) (a b : List Position) → In place (a ++ b) → In place a ⊎ In place b
 in_either place [] b there = inr there
@@ -62,7 +59,3 @@ covers_middle a b c d =
     covers_then (covers_same (append_assoc a b (c ++ d) ∙ ap (λ (list : List Position). a ++ list) (sym (append_assoc b c d))))
     (covers_then (covers_on (covers_same refl) (covers_on (covers_swap b c) (covers_same refl)))
     (covers_same (ap (λ (list : List Position). a ++ list) (append_assoc c b d) ∙ sym (append_assoc a c (b ++ d)))))
-
-pub comes_covered : {Follow : Lexeme → Type 0} {expected more : List Expected} {pieces : List Piece} {limits others : List Position} → Covers limits others → Comes Follow expected more pieces limits
-    → Comes Follow expected more pieces others
-comes_covered {Follow} {expected} {more} {pieces} {limits} {others} covers first = record { comes = λ telling tokens later behind follow are. judged_among covers.none covers.some (first.comes telling tokens later behind follow are) }

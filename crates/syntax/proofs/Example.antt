@@ -1,10 +1,10 @@
 -- A worked example of tokens.
-use Rattle.std.proofs.Common.{◌≡◌, ◌≢◌, ℕ, ◌≤◌, List, [], ◌∷◌, length, codes, inl, refl, ap, arith, lit≤, lit<}
+use Rattle.std.proofs.Common.{◌≡◌, ◌≢◌, ℕ, ◌≤◌, ◌+◌, ◌-◌, List, [], ◌∷◌, ◌++◌, length, codes, inl, refl, ap, arith, lit≤, lit<}
 use Rattle.syntax.specs.declared.token.Word.{Word}
 use Rattle.syntax.specs.declared.token.Word.TheVariants as reserved
 use Rattle.syntax.specs.declared.token.Symbol.{Symbol}
 use Rattle.syntax.specs.declared.token.Symbol.TheVariants.{OpenBracket, Colon, DoubleColon, Arrow, DoubleDot, Equal, NotEqual, LessOrEqual, GreaterOrEqual}
-use Rattle.syntax.specs.Tokens.{Begins, Stands, TokensExample, name, number, symbol, unknown, symbol_text, word_text}
+use Rattle.syntax.specs.Tokens.{AreBlank, AreTokens, Begins, Lexeme, Spot, Stands, TokensExample, name, number, symbol, unknown, symbol_text, word_text}
 
 heads : (c d : ℕ) (r s : List ℕ) → c ∷ r ≡ d ∷ s → c ≡ d
 heads c d r s e = cc
@@ -67,44 +67,16 @@ large = (
   ),
 )
 
+-- one token, and those after it
+token : (place : ℕ) (blanks here rest : List ℕ) (lexeme : Lexeme) (more : List Spot) → AreBlank blanks → Stands lexeme here rest → AreTokens (place + length blanks + (length here - length rest)) rest more
+    → AreTokens place (blanks ++ here) ((lexeme, place + length blanks) ∷ more)
+token place blanks here rest lexeme more none stands later = (blanks, here, rest, refl, none, refl, stands, later)
+
 pub example : TokensExample
 example = (
-  (
-    [],
-    codes "[x :12",
-    codes "x :12",
-    refl,
-    tt,
-    refl,
-    bracket,
-    (
-      [],
-      codes "x :12",
-      codes " :12",
-      refl,
-      tt,
-      refl,
-      x_name,
-      (
-        codes " ",
-        codes ":12",
-        codes "12",
-        refl,
-        (refl, tt),
-        refl,
-        colon,
-        ([], codes "12", [], refl, tt, refl, twelve, tt),
-      ),
-    ),
-  ),
-  (
-    [],
-    codes "a 9223372036854775808 b",
-    codes " 9223372036854775808 b",
-    refl,
-    tt,
-    refl,
-    a_name,
-    (codes " ", codes "9223372036854775808 b", [], refl, (refl, tt), refl, large, tt),
-  ),
+  token 0 [] (codes "[x :12") (codes "x :12") (symbol OpenBracket) ((name (codes "x"), 1) ∷ (symbol Colon, 3) ∷ (number 12, 4) ∷ []) tt bracket
+      (token 1 [] (codes "x :12") (codes " :12") (name (codes "x")) ((symbol Colon, 3) ∷ (number 12, 4) ∷ []) tt x_name
+      (token 2 (codes " ") (codes ":12") (codes "12") (symbol Colon) ((number 12, 4) ∷ []) (refl, tt) colon (token 4 [] (codes "12") [] (number 12) [] tt twelve tt))),
+  token 0 [] (codes "a 9223372036854775808 b") (codes " 9223372036854775808 b") (name (codes "a")) ((unknown, 2) ∷ []) tt a_name
+      (token 1 (codes " ") (codes "9223372036854775808 b") [] unknown [] (refl, tt) large tt),
 )

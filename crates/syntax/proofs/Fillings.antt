@@ -1,17 +1,21 @@
--- The fillings of each thing that may come: what can stand there, and the pieces that it spells.
-use Rattle.std.specs.Prelude.{◌≡◌, ◌≢◌, ◌⊎◌, ⊤, List, [], ◌∷◌, ◌++◌, Option, Some, None}
+-- The fillings of each thing that may come: what can stand there, the pieces that it spells and the limits that it passes.
+use Rattle.std.specs.Prelude.{◌≡◌, ⊤, ℕ, suc, List, [], ◌∷◌, ◌++◌, Option, Some, None}
 use Rattle.std.specs.List.{flat_map}
+use Rattle.terms.specs.declared.key.TheConstants.{MAX_COMPONENTS}
+use Rattle.steptree.specs.declared.slot.TheConstants.{MOST_NAMES}
+use Rattle.steptree.specs.declared.sheet.TheConstants.{MOST_COLLECTIONS}
+use Rattle.syntax.specs.declared.limits.TheConstants.{MOST_BRACES}
 use Rattle.syntax.specs.declared.token.Word.TheVariants as kept
 use Rattle.syntax.specs.declared.token.Symbol.TheVariants as sign
-use Rattle.syntax.specs.Tokens.{symbol, unknown, Spot}
-use Rattle.syntax.specs.Grammar.{Position, Named, Expr, sum_alone, Sum, Prod, Sums, Statements, Get, Put, Names, Relation, StepText, GraphText}
-use Rattle.syntax.specs.Spelled.{Piece, plain, IsPiece, named, a_sign, sign_at, a_word, expr_pieces, sum_pieces, prod_pieces, sums_pieces, in_braces_at, statements_pieces, get_pieces, put_pieces}
-use Rattle.syntax.specs.Spelled.{names_pieces, item_at, step_at, environment_at, arrow, relation_pieces, parameters_pieces, variables_pieces, step_pieces, graph_pieces}
-use Rattle.syntax.specs.Expected.{Comparing, never, possible, behind_left, Expression, Kind, opening, closing, Part, reading, writing, Expected, Move, taken, left_out, wrong, passed}
+use Rattle.syntax.specs.Grammar.{Position, Named, Expr, sum_alone, Sum, Prod, Sums, Statements, Put, put_item, put_tag, Names, Relation, StepText, GraphText}
+use Rattle.syntax.specs.Spelled.{Piece, named, a_sign, sign_at, a_word, expr_pieces, sum_pieces, prod_pieces, sums_pieces, item_pieces, tag_pieces, statements_pieces}
+use Rattle.syntax.specs.Spelled.{names_pieces, bracketed_name, angled_name, round_name, relation_pieces, parameters_pieces, variables_pieces, step_pieces, graph_pieces}
+use Rattle.syntax.specs.Limits.{one_more, name_limits, sum_limits, expr_limits, sums_limits, put_limits, statements_limits, all_names, declarations_limits, relation_limits, steps_limits}
+use Rattle.syntax.specs.Expected.{Comparing, never, possible, behind_left, Expression, Kind, item, tag, closing, Part, Expected, declared_limits}
 use Rattle.syntax.specs.Expected.{exactly, keyword, a_name, whole, operand, behind_operand, components, more_components, statements, nested_brace, or_else, put_target, declarations, front, front_named, front_closed}
 use Rattle.syntax.specs.Expected.{component_name, behind_component, relations, reader, related, steps, step_name, parameters, parameter, behind_parameter, variables, step_variable, behind_variable}
+use Rattle.syntax.specs.Statements.{Own, own_pieces, own_limits, Second, second_pieces, second_limits}
 use Rattle.syntax.specs.Partial.{outermost, state_pieces, comparison_waiting, IsBehind}
-use Rattle.syntax.proofs.Lost.{IsLost}
 
 -- ---- expressions
 
@@ -48,18 +52,15 @@ whole_pieces never sum = sum_pieces sum
 whole_pieces possible expr = expr_pieces expr
 whole_pieces (behind_left left how) ending = ending.rest
 
+abbrev pub whole_limits : (comparing : Comparing) → Whole comparing → List Position
+whole_limits never sum = sum_limits sum
+whole_limits possible expr = expr_limits expr
+whole_limits (behind_left left how) ending = []
+
 abbrev pub comma_and : Sum → List Piece
 comma_and sum = a_sign sign.Comma ++ sum_pieces sum
 
 -- ---- statements
-
-abbrev pub Own : Part → Type 0
-Own reading = Get
-Own writing = Put
-
-abbrev pub own_pieces : (part : Part) → Own part → List Piece
-own_pieces reading it = get_pieces it
-own_pieces writing it = put_pieces it
 
 abbrev pub Block : Part → Type 0
 Block part = Statements (Own part)
@@ -67,18 +68,13 @@ Block part = Statements (Own part)
 abbrev pub block_pieces : (part : Part) → Block part → List Piece
 block_pieces part block = statements_pieces (own_pieces part) block
 
--- a block and the position of its opening brace
-pub record Braced (part : Part) : Type 0 where
-  pub brace : Position
-  pub block : Block part
+abbrev pub block_limits : (part : Part) → ℕ → Block part → List Position
+block_limits part around block = statements_limits (own_limits part) around block
 
-abbrev pub else_pieces : (part : Part) → Option (Braced part) → List Piece
-else_pieces part None = []
-else_pieces part (Some second) = a_word kept.Else ++ in_braces_at second.brace (block_pieces part second.block)
-
-pub record PutBehind (rest : List Piece) : Type 0 where
-  pub put : Put
-  pub spelled : put_pieces put ≡ a_word kept.Put ++ rest
+-- what is put, after the word
+abbrev pub target_pieces : Put → List Piece
+target_pieces (put_item key value) = item_pieces key ++ a_sign sign.Assign ++ expr_pieces value ++ a_sign sign.Semicolon
+target_pieces (put_tag key) = tag_pieces key ++ a_sign sign.Semicolon
 
 -- ---- names
 
@@ -87,6 +83,24 @@ comma_name it = a_sign sign.Comma ++ named it ∷ []
 
 abbrev pub more_names : List Named → List Piece
 more_names names = flat_map comma_name names
+
+-- the limits at each of these names, with `before` names before them
+abbrev pub each_limits : (ℕ → Position → List Position) → ℕ → List Named → List Position
+each_limits limits before [] = []
+each_limits limits before (it ∷ names) = (name_limits it ++ limits before it.1) ++ each_limits limits (suc before) names
+
+abbrev pub counted : ℕ → List Named → ℕ
+counted before [] = before
+counted before (it ∷ names) = counted (suc before) names
+
+abbrev pub component_limits : ℕ → List Named → List Position
+component_limits before names = each_limits (one_more MAX_COMPONENTS) before names
+
+abbrev pub variable_limits : ℕ → List Named → List Position
+variable_limits before names = each_limits (one_more MOST_NAMES) before names
+
+abbrev pub parameter_limits : ℕ → List Named → List Position
+parameter_limits before names = each_limits (λ count place. one_more MAX_COMPONENTS count place ++ one_more MOST_NAMES count place) before names
 
 -- the names of a step after those of its parameters that were read
 pub record StepNames (Parameters : Type 0) : Type 0 where
@@ -97,27 +111,10 @@ pub record StepNames (Parameters : Type 0) : Type 0 where
 abbrev pub behind_parameters : Option Names → List Piece
 behind_parameters names = a_sign sign.CloseRound ++ a_sign sign.OpenBrace ++ variables_pieces names
 
+abbrev pub names_limits : ℕ → List Named → Option Names → List Position
+names_limits before names more = parameter_limits before names ++ variable_limits (counted before names) (all_names more)
+
 -- ---- graphs
-
--- a graph text that begins with this bracket, and goes on with `rest`
-pub record Opened (kind : Kind) (place : Position) (rest : List Piece) : Type 0 where
-  pub piece : Piece
-  pub is : IsPiece piece (symbol (opening kind), place)
-  pub graph : GraphText
-  pub spelled : graph_pieces graph ≡ piece ∷ rest
-
--- a relation that spells these pieces
-pub record Related (pieces : List Piece) : Type 0 where
-  pub relation : Relation
-  pub spelled : relation_pieces relation ≡ pieces
-
-abbrev pub Reader : List Piece → Type 0
-Reader rest = (place : Position) (it : Named) → Related (arrow (item_at place it) rest)
-
--- what is put, by a step and by the environment
-pub record PutByBoth (rest : List Piece) : Type 0 where
-  pub by_step : (place : Position) (it : Named) → Related (arrow (step_at place it) rest)
-  pub by_environment : (place : Position) → Related (arrow (environment_at place) rest)
 
 pub record RelationsAndSteps : Type 0 where
   pub relations : List Relation
@@ -125,6 +122,79 @@ pub record RelationsAndSteps : Type 0 where
 
 abbrev pub relations_and_steps : RelationsAndSteps → List Piece
 relations_and_steps them = flat_map relation_pieces them.relations ++ flat_map step_pieces them.steps
+
+abbrev pub rest_limits : RelationsAndSteps → List Position
+rest_limits them = flat_map relation_limits them.relations ++ steps_limits 0 them.steps
+
+-- what reads an item: a step, or the environment
+abbrev pub reader_pieces : Option Named → List Piece
+reader_pieces None = a_word kept.Env
+reader_pieces (Some step) = round_name step
+
+abbrev pub reader_limits : Option Named → List Position
+reader_limits None = []
+reader_limits (Some step) = name_limits step
+
+-- a collection of this kind
+abbrev pub collection_pieces : Kind → Named → List Piece
+collection_pieces item it = bracketed_name it
+collection_pieces tag it = angled_name it
+
+-- what a relation has after the closing bracket of its collection
+abbrev pub Target : Kind → Type 0
+Target item = Option Named
+Target tag = Named
+
+abbrev pub target_behind : (kind : Kind) → Target kind → List Piece
+target_behind item it = a_sign sign.Arrow ++ reader_pieces it
+target_behind tag step = a_sign sign.DoubleColon ++ round_name step
+
+abbrev pub target_limits : (kind : Kind) → Target kind → List Position
+target_limits item it = reader_limits it
+target_limits tag step = name_limits step
+
+-- a text after the closing bracket of its first declaration or relation
+pub data Closed (kind : Kind) : Type 0 where
+  declares : GraphText → Closed kind
+  relates : Target kind → RelationsAndSteps → Closed kind
+
+abbrev pub closed_pieces : (kind : Kind) → Closed kind → List Piece
+closed_pieces kind (declares graph) = a_sign sign.Semicolon ++ graph_pieces graph
+closed_pieces kind (relates target them) = target_behind kind target ++ a_sign sign.Semicolon ++ relations_and_steps them
+
+-- a text after the name of that collection
+pub data Front (kind : Kind) : Type 0 where
+  with_components : Names → GraphText → Front kind
+  closes : Closed kind → Front kind
+
+abbrev pub front_pieces : (kind : Kind) → Front kind → List Piece
+front_pieces kind (with_components names graph) = a_sign sign.Colon ++ names_pieces names ++ a_sign (closing kind) ++ a_sign sign.Semicolon ++ graph_pieces graph
+front_pieces kind (closes it) = a_sign (closing kind) ++ closed_pieces kind it
+
+abbrev pub text_limits : ℕ → ℕ → GraphText → List Position
+text_limits items tags graph = declarations_limits items tags graph.declarations ++ (flat_map relation_limits graph.relations ++ steps_limits 0 graph.steps)
+
+abbrev pub after_declared : Kind → ℕ → ℕ → GraphText → List Position
+after_declared item items tags graph = text_limits (suc items) tags graph
+after_declared tag items tags graph = text_limits items (suc tags) graph
+
+abbrev pub closed_limits : (kind : Kind) → ℕ → ℕ → Position → Closed kind → List Position
+closed_limits kind items tags place (declares graph) = declared_limits kind items tags place ++ after_declared kind items tags graph
+closed_limits kind items tags place (relates target them) = target_limits kind target ++ rest_limits them
+
+abbrev pub front_limits : (kind : Kind) → ℕ → ℕ → Position → Front kind → List Position
+front_limits kind items tags place (with_components names graph) = declared_limits kind items tags place ++ (component_limits 0 (all_names (Some names)) ++ after_declared kind items tags graph)
+front_limits kind items tags place (closes it) = closed_limits kind items tags place it
+
+-- ---- one after another
+
+pub record Both (First Rest : Type 0) : Type 0 where
+  pub first : First
+  pub rest : Rest
+
+infixr 5 ◌▸◌
+abbrev pub ◌▸◌ : {First Rest : Type 0} → First → Rest → Both First Rest
+first ▸ rest = record { first = first; rest = rest }
 
 -- ---- all things that may come
 
@@ -139,17 +209,17 @@ Filling components = Sums
 Filling more_components = List Sum
 Filling (statements part around) = Block part
 Filling (nested_brace around) = Position
-Filling (or_else part around) = Option (Braced part)
-Filling put_target = ToCome PutBehind
+Filling (or_else part around) = Second part
+Filling put_target = Put
 Filling (declarations items tags) = GraphText
-Filling (front kind items tags) = ToCome (λ rest. (place : Position) → Opened kind place rest)
-Filling (front_named kind items tags at) = ToCome (λ rest. (place : Position) (it : Named) → Opened kind place (named it ∷ rest))
-Filling (front_closed kind items tags at) = ToCome (λ rest. (place : Position) (it : Named) → Opened kind place (named it ∷ plain (symbol (closing kind)) ∷ rest))
+Filling (front kind items tags) = Both Named (Front kind)
+Filling (front_named kind items tags at) = Front kind
+Filling (front_closed kind items tags at) = Closed kind
 Filling (component_name before) = Names
 Filling (behind_component before) = List Named
 Filling relations = RelationsAndSteps
-Filling reader = ToCome Reader
-Filling related = ToCome PutByBoth
+Filling reader = Option Named
+Filling related = Both Kind Named
 Filling (steps before) = List StepText
 Filling (step_name before) = Named
 Filling parameters = StepNames (Option Names)
@@ -170,17 +240,17 @@ filling_pieces components filling = sums_pieces filling
 filling_pieces more_components filling = flat_map comma_and filling
 filling_pieces (statements part around) filling = block_pieces part filling
 filling_pieces (nested_brace around) filling = sign_at filling sign.OpenBrace
-filling_pieces (or_else part around) filling = else_pieces part filling
-filling_pieces put_target filling = filling.rest
+filling_pieces (or_else part around) filling = second_pieces part filling
+filling_pieces put_target filling = target_pieces filling
 filling_pieces (declarations items tags) filling = graph_pieces filling
-filling_pieces (front kind items tags) filling = filling.rest
-filling_pieces (front_named kind items tags at) filling = filling.rest
-filling_pieces (front_closed kind items tags at) filling = filling.rest
+filling_pieces (front kind items tags) filling = named filling.first ∷ front_pieces kind filling.rest
+filling_pieces (front_named kind items tags at) filling = front_pieces kind filling
+filling_pieces (front_closed kind items tags at) filling = closed_pieces kind filling
 filling_pieces (component_name before) filling = names_pieces filling
 filling_pieces (behind_component before) filling = more_names filling
 filling_pieces relations filling = relations_and_steps filling
-filling_pieces reader filling = filling.rest
-filling_pieces related filling = filling.rest
+filling_pieces reader filling = reader_pieces filling
+filling_pieces related filling = collection_pieces filling.first filling.rest
 filling_pieces (steps before) filling = flat_map step_pieces filling
 filling_pieces (step_name before) filling = named filling ∷ []
 filling_pieces parameters filling = parameters_pieces filling.parameters ++ behind_parameters filling.variables
@@ -190,43 +260,45 @@ filling_pieces (variables before) filling = variables_pieces filling
 filling_pieces (step_variable before) filling = names_pieces filling ++ a_sign sign.Semicolon
 filling_pieces (behind_variable before) filling = more_names filling ++ a_sign sign.Semicolon
 
--- ---- one after another
-
-pub record Both (First Rest : Type 0) : Type 0 where
-  pub first : First
-  pub rest : Rest
+abbrev pub filling_limits : (expected : Expected) → Filling expected → List Position
+filling_limits a_name filling = name_limits filling
+filling_limits (whole comparing) filling = whole_limits comparing filling
+filling_limits components filling = sums_limits filling
+filling_limits more_components filling = flat_map sum_limits filling
+filling_limits (statements part around) filling = block_limits part around filling
+filling_limits (nested_brace around) filling = one_more MOST_BRACES around filling
+filling_limits (or_else part around) filling = second_limits part around filling
+filling_limits put_target filling = put_limits filling
+filling_limits (declarations items tags) filling = text_limits items tags filling
+filling_limits (front kind items tags) filling = name_limits filling.first ++ front_limits kind items tags filling.first.1 filling.rest
+filling_limits (front_named kind items tags at) filling = front_limits kind items tags at filling
+filling_limits (front_closed kind items tags at) filling = closed_limits kind items tags at filling
+filling_limits (component_name before) filling = component_limits before (all_names (Some filling))
+filling_limits (behind_component before) filling = component_limits before filling
+filling_limits relations filling = rest_limits filling
+filling_limits reader filling = reader_limits filling
+filling_limits related filling = name_limits filling.rest
+filling_limits (steps before) filling = steps_limits before filling
+filling_limits (step_name before) filling = name_limits filling ++ one_more MOST_COLLECTIONS before filling.1
+filling_limits parameters filling = names_limits 0 (all_names filling.parameters) filling.variables
+filling_limits (parameter before) filling = names_limits before (all_names (Some filling.parameters)) filling.variables
+filling_limits (behind_parameter before) filling = names_limits before filling.parameters filling.variables
+filling_limits (variables before) filling = variable_limits before (all_names filling)
+filling_limits (step_variable before) filling = variable_limits before (all_names (Some filling))
+filling_limits (behind_variable before) filling = variable_limits before filling
+filling_limits _ filling = []
 
 abbrev pub Fillings : List Expected → Type 0
 Fillings [] = ⊤
 Fillings (first ∷ rest) = Both (Filling first) (Fillings rest)
 
+-- what each of them has, in a row
+abbrev pub in_row : {X : Type 0} → ((expected : Expected) → Filling expected → List X) → (stack : List Expected) → Fillings stack → List X
+in_row of [] fillings = []
+in_row of (first ∷ rest) fillings = of first fillings.first ++ in_row of rest fillings.rest
+
 abbrev pub fillings_pieces : (stack : List Expected) → Fillings stack → List Piece
-fillings_pieces [] fillings = []
-fillings_pieces (first ∷ rest) fillings = filling_pieces first fillings.first ++ fillings_pieces rest fillings.rest
+fillings_pieces stack fillings = in_row filling_pieces stack fillings
 
--- ---- a move
-
--- a filling that spells these pieces
-pub record Made (first : Expected) (pieces : List Piece) : Type 0 where
-  pub filling : Filling first
-  pub spelled : filling_pieces first filling ≡ pieces
-
--- a filling that begins with this token, and goes on with `rest`
-pub record Begun (first : Expected) (spot : Spot) (rest : List Piece) : Type 0 where
-  pub piece : Piece
-  pub is : IsPiece piece spot
-  pub made : Made first (piece ∷ rest)
-
--- a filling begins with this token, which is a known one
-pub record Begins (first : Expected) (spot : Spot) : Type 0 where
-  pub known : spot.0 ≢ unknown
-  pub more : List Expected
-  pub begun : (later : Fillings more) → Begun first spot (fillings_pieces more later)
-
--- A token that is taken begins a filling. If no token is taken, the filling may be empty. If a limit is reported, the token
--- begins a filling all the same, or nothing else is reported of the expression here.
-abbrev pub Sound : Expected → Spot → Move → Type 0
-Sound first spot (taken more) = (later : Fillings more) → Begun first spot (fillings_pieces more later)
-Sound first spot left_out = Made first []
-Sound first spot wrong = ⊤
-Sound first spot (passed place) = Begins first spot ⊎ IsLost place first
+abbrev pub fillings_limits : (stack : List Expected) → Fillings stack → List Position
+fillings_limits stack fillings = in_row filling_limits stack fillings

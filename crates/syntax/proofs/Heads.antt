@@ -24,13 +24,6 @@ is_bracket (symbol sign.OpenRound) met = refl
 is_bracket (symbol _) met = absurd met
 is_bracket _ met = absurd met
 
-number_met : (it : Head) (value : ℤ) → IsHead it (Number value) → it ≡ a_number (cast_unsigned w64 value)
-number_met (a_number found) value met = ap a_number met
-number_met minus_sign value met = absurd met
-number_met open_bracket value met = absurd met
-number_met (a_variable text) value met = absurd met
-number_met no_head value met = absurd met
-
 pub is_number : (lexeme : Lexeme) (value : ℤ) → IsHead (head lexeme) (Number value) → lexeme ≡ number (cast_unsigned w64 value)
 is_number (number found) value met = ap number met
 is_number (symbol sign.Minus) value met = absurd met

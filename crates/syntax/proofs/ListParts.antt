@@ -126,9 +126,6 @@ variable_list before most is = record {
   full = λ place. too_many_more MOST_NAMES (before + most) place (omega (arith, is));
 }
 
-pub no_parameters_read : (before after : List Spot) → NoParameters true before after → AreParameters [] before after
-no_parameters_read before after taken = record { names = None; reads = taken; are = tt; within = refl }
-
 pub parameters_read : (them : List Name) (before middle after : List Spot) → NoParameters false before middle → IsListRead MAX_COMPONENTS sign.CloseRound them middle after parameter_list
     → AreParameters them before after
 parameters_read them before middle after none list =

@@ -1,5 +1,5 @@
 -- An expression in which a limit is passed, or that is too deep: once it is whole nothing else is reported, whatever tokens come.
-use Rattle.std.proofs.Common.{◌≡◌, ◌≤◌, ◌<◌, true, false, Bool, nat_lt, if◌then◌else◌, List, [], ◌∷◌, length, Option, Some, None, refl, sym, ap, subst, arith, rules}
+use Rattle.std.proofs.Common.{◌≡◌, ◌≤◌, ◌<◌, true, false, Bool, nat_lt, if◌then◌else◌, List, [], ◌∷◌, length, Option, Some, None, refl, sym, ap, subst, ◌∙◌, arith, rules}
 use Rattle.std.specs.Prelude.{⊤}
 use Rattle.syntax.specs.declared.limits.TheConstants.{MOST_BRACKETS, MOST_DEPTH}
 use Rattle.syntax.specs.Tokens.{Lexeme, Spot, unknown}
@@ -65,19 +65,20 @@ deep_comparison level (around ∷ outer) prod how may deep = deep
 
 -- ---- what is lost
 
--- a limit at this place is reported once the expression is whole, sooner than another: before an operand, and after one
-abbrev pub LostOperand : Sooner → Position → Expression → Type 0
-LostOperand its_depth place state = WaitsDeep state.level state.outer × (state.first ≡ place)
-LostOperand within_it place state = state.passed ≡ Some place
-
-abbrev pub LostBehind : Sooner → Position → Expression → Prod → Type 0
-LostBehind its_depth place state prod = EndsDeep state.level state.outer prod × (state.first ≡ place)
-LostBehind within_it place state prod = state.passed ≡ Some place
+-- a limit at this place is reported once the expression is whole, sooner than another: its depth, or the first one within it
+abbrev pub LostBy : Sooner → Position → Type 0 → Expression → Type 0
+LostBy its_depth place deep state = deep × (state.first ≡ place)
+LostBy within_it place deep state = state.passed ≡ Some place
 
 abbrev pub Lost : Sooner → Position → Expected → Type 0
-Lost sooner place (operand state) = LostOperand sooner place state
-Lost sooner place (behind_operand state prod) = LostBehind sooner place state prod
+Lost sooner place (operand state) = LostBy sooner place (WaitsDeep state.level state.outer) state
+Lost sooner place (behind_operand state prod) = LostBy sooner place (EndsDeep state.level state.outer prod) state
 Lost sooner place _ = ⊥
+
+lost_on : {one two : Type 0} (sooner : Sooner) (place : Position) (from to : Expression) → (one → two) → to.first ≡ from.first → (from.passed ≡ Some place → to.passed ≡ Some place) → LostBy sooner place one from
+    → LostBy sooner place two to
+lost_on {one} {two} its_depth place from to deep first noted lost = (deep lost.0, first ∙ lost.1)
+lost_on {one} {two} within_it place from to deep first noted lost = noted lost
 
 abbrev pub IsLost : Position → Expected → Type 0
 IsLost place first = (sooner : Sooner) × Lost sooner place first
@@ -98,29 +99,18 @@ lost_broken : (sooner : Sooner) (place : Position) (before : Option Position) �
 lost_broken sooner place None = tt
 lost_broken sooner place (Some other) = tt
 
-lost_minus : (sooner : Sooner) (place : Position) (state : Expression) (at : Position) → LostOperand sooner place state → LostOperand sooner place (negating state at)
-lost_minus its_depth place state at lost = (deep_negating state.level state.outer (at ∷ state.level.negations) lost.0, lost.1)
-lost_minus within_it place state at lost = lost
+lost_read : (sooner : Sooner) (place : Position) (state : Expression) (unary : Unary) → Lost sooner place (operand state) → Lost sooner place (behind_operand (without_product state) (product_behind state unary))
+lost_read sooner place state unary lost = lost_on sooner place state (without_product state) (deep_read state.level state.outer unary) refl (λ same. same) lost
 
-lost_bracket : (sooner : Sooner) (place : Position) (state : Expression) (at : Position) → LostOperand sooner place state → LostOperand sooner place (bracketing state at)
-lost_bracket its_depth place state at lost = lost
-lost_bracket within_it place state at lost = ap (λ (one : Option Position). earlier one (one_more MOST_BRACKETS (length state.outer) at)) lost
-
-lost_passing : (sooner : Sooner) (place : Position) (state : Expression) (places : List Position) → LostOperand sooner place state → LostOperand sooner place (passing state places)
-lost_passing its_depth place state places lost = lost
-lost_passing within_it place state places lost = ap (λ (one : Option Position). earlier one places) lost
-
-lost_read : (sooner : Sooner) (place : Position) (state : Expression) (unary : Unary) → LostOperand sooner place state → LostBehind sooner place (without_product state) (product_behind state unary)
-lost_read its_depth place state unary lost = (deep_read state.level state.outer unary lost.0, lost.1)
-lost_read within_it place state unary lost = lost
-
-lost_operand : (sooner : Sooner) (place : Position) (state : Expression) (at : Position) (it : Head) → LostOperand sooner place state
-    → LostMove sooner place (changed (broken (of_whole sooner)) (look_operand state at it))
-lost_operand sooner place state at minus_sign lost = lost_minus sooner place state at lost
-lost_operand sooner place state at open_bracket lost = lost_bracket sooner place state at lost
+lost_operand : (sooner : Sooner) (place : Position) (state : Expression) (at : Position) (it : Head) → Lost sooner place (operand state) → LostMove sooner place (changed (broken (of_whole sooner)) (look_operand state at it))
+lost_operand sooner place state at minus_sign lost = lost_on sooner place state (negating state at) (deep_negating state.level state.outer (at ∷ state.level.negations)) refl (λ same. same) lost
+lost_operand sooner place state at open_bracket lost =
+    lost_on {one = WaitsDeep state.level state.outer} sooner place state (bracketing state at) (λ deep. deep) refl (λ same. ap (λ (one : Option Position). earlier one (one_more MOST_BRACKETS (length state.outer) at)) same) lost
 lost_operand sooner place state at (a_number value) lost = lost_read sooner place state (literal at value) lost
 lost_operand sooner place state at (a_variable text) lost =
-    lost_read sooner place (passing state (name_limits (text, at))) (variable (text, at)) (lost_passing sooner place state (name_limits (text, at)) lost)
+    let places = name_limits (text, at) in
+    lost_read sooner place (passing state places) (variable (text, at))
+    (lost_on {one = WaitsDeep state.level state.outer} sooner place state (passing state places) (λ deep. deep) refl (λ same. ap (λ (one : Option Position). earlier one places) same) lost)
 lost_operand sooner place state at no_head lost = lost_broken sooner place state.passed
 
 -- what is reported of a whole expression: `deep` if it is too deep, `before` is the first limit within it
@@ -132,7 +122,7 @@ told_within : (deep : Bool) (place first : Position) → told within_it place de
 told_within true place first = refl
 told_within false place first = refl
 
-lost_finished : (sooner : Sooner) (place : Position) (state : Expression) (prod : Prod) → state.outer ≡ [] → LostBehind sooner place state prod
+lost_finished : (sooner : Sooner) (place : Position) (state : Expression) (prod : Prod) → state.outer ≡ [] → Lost sooner place (behind_operand state prod)
     → LostMove sooner place (changed (chosen sooner state.passed) (finished state (level_expr state.level prod)))
 lost_finished its_depth place state prod none lost =
     let here : MOST_DEPTH < expr_depth (level_expr state.level prod) = subst (λ (outer : List (Level × Position)). EndsDeep state.level outer prod) none lost.0 in
@@ -147,45 +137,28 @@ lost_inside : (sooner : Sooner) (place : Position) (around : Level × Position) 
 lost_inside sooner place around outer before None = tt
 lost_inside sooner place around outer before (Some other) = tt
 
-lost_end : (sooner : Sooner) (place : Position) (state : Expression) (outer : List (Level × Position)) (prod : Prod) → state.outer ≡ outer → LostBehind sooner place state prod
+lost_end : (sooner : Sooner) (place : Position) (state : Expression) (outer : List (Level × Position)) (prod : Prod) → state.outer ≡ outer → Lost sooner place (behind_operand state prod)
     → LostMove sooner place (changed (whole_or_broken (of_whole sooner) outer state.passed) (look_end state outer prod))
 lost_end sooner place state [] prod same lost = lost_finished sooner place state prod same lost
 lost_end sooner place state (around ∷ outer) prod same lost = lost_inside sooner place around outer state.passed state.passed
 
-lost_closed : (sooner : Sooner) (place : Position) (state : Expression) (around : Level × Position) (outer : List (Level × Position)) (prod : Prod) → state.outer ≡ around ∷ outer → LostBehind sooner place state prod
-    → LostOperand sooner place (closed state around.0 outer)
-lost_closed its_depth place state around outer prod same lost = (subst (λ (list : List (Level × Position)). EndsDeep state.level list prod) same lost.0, lost.1)
-lost_closed within_it place state around outer prod same lost = lost
-
-lost_close : (sooner : Sooner) (place : Position) (state : Expression) (outer : List (Level × Position)) (prod : Prod) → state.outer ≡ outer → LostBehind sooner place state prod
+lost_close : (sooner : Sooner) (place : Position) (state : Expression) (outer : List (Level × Position)) (prod : Prod) → state.outer ≡ outer → Lost sooner place (behind_operand state prod)
     → LostMove sooner place (changed (whole_or_broken (of_whole sooner) outer state.passed) (look_close state outer prod))
 lost_close sooner place state [] prod same lost = lost_finished sooner place state prod same lost
 lost_close sooner place state (around ∷ outer) prod same lost =
-    lost_read sooner place (closed state around.0 outer) (bracketed around.1 (level_expr state.level prod)) (lost_closed sooner place state around outer prod same lost)
+    lost_read sooner place (closed state around.0 outer) (bracketed around.1 (level_expr state.level prod))
+    (lost_on sooner place state (closed state around.0 outer) (λ (deep : EndsDeep state.level state.outer prod). subst (λ (list : List (Level × Position)). EndsDeep state.level list prod) same deep) refl (λ same. same) lost)
 
-lost_product : (sooner : Sooner) (place : Position) (state : Expression) (prod : Prod) (how : Multiplication) → LostBehind sooner place state prod → LostOperand sooner place (awaiting_product state prod how)
-lost_product its_depth place state prod how lost = (deep_product state.level state.outer prod how lost.0, lost.1)
-lost_product within_it place state prod how lost = lost
-
-lost_sum : (sooner : Sooner) (place : Position) (state : Expression) (prod : Prod) (how : Addition) → LostBehind sooner place state prod → LostOperand sooner place (awaiting_sum state prod how)
-lost_sum its_depth place state prod how lost = (deep_sum state.level state.outer prod how lost.0, lost.1)
-lost_sum within_it place state prod how lost = lost
-
-lost_compared : (sooner : Sooner) (place : Position) (state : Expression) (prod : Prod) (how : Comparison) → state.level.comparing ≡ possible → LostBehind sooner place state prod
-    → LostOperand sooner place (awaiting_comparison state prod how)
-lost_compared its_depth place state prod how may lost = (deep_comparison state.level state.outer prod how may lost.0, lost.1)
-lost_compared within_it place state prod how may lost = lost
-
-lost_comparison : (sooner : Sooner) (place : Position) (state : Expression) (comparing : Comparing) (prod : Prod) (how : Comparison) → state.level.comparing ≡ comparing → LostBehind sooner place state prod
+lost_comparison : (sooner : Sooner) (place : Position) (state : Expression) (comparing : Comparing) (prod : Prod) (how : Comparison) → state.level.comparing ≡ comparing → Lost sooner place (behind_operand state prod)
     → LostMove sooner place (changed (whole_or_broken (of_whole sooner) state.outer state.passed) (look_comparison state comparing prod how))
 lost_comparison sooner place state never prod how same lost = lost_end sooner place state state.outer prod refl lost
 lost_comparison sooner place state (behind_left left other) prod how same lost = lost_end sooner place state state.outer prod refl lost
-lost_comparison sooner place state possible prod how same lost = lost_compared sooner place state prod how same lost
+lost_comparison sooner place state possible prod how same lost = lost_on sooner place state (awaiting_comparison state prod how) (deep_comparison state.level state.outer prod how same) refl (λ same. same) lost
 
-lost_behind : (sooner : Sooner) (place : Position) (state : Expression) (prod : Prod) (it : Joint) → LostBehind sooner place state prod
+lost_behind : (sooner : Sooner) (place : Position) (state : Expression) (prod : Prod) (it : Joint) → Lost sooner place (behind_operand state prod)
     → LostMove sooner place (changed (whole_or_broken (of_whole sooner) state.outer state.passed) (look_behind state prod it))
-lost_behind sooner place state prod (by_product how) lost = lost_product sooner place state prod how lost
-lost_behind sooner place state prod (by_sum how) lost = lost_sum sooner place state prod how lost
+lost_behind sooner place state prod (by_product how) lost = lost_on sooner place state (awaiting_product state prod how) (deep_product state.level state.outer prod how) refl (λ same. same) lost
+lost_behind sooner place state prod (by_sum how) lost = lost_on sooner place state (awaiting_sum state prod how) (deep_sum state.level state.outer prod how) refl (λ same. same) lost
 lost_behind sooner place state prod (by_comparison how) lost = lost_comparison sooner place state state.level.comparing prod how refl lost
 lost_behind sooner place state prod closes lost = lost_close sooner place state state.outer prod refl lost
 lost_behind sooner place state prod ends lost = lost_end sooner place state state.outer prod refl lost

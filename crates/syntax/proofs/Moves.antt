@@ -1,8 +1,8 @@
 -- One step of the machine, and one part of the parser after another.
-use Rattle.std.proofs.Common.{◌≡◌, ◌≢◌, ℕ, zero, suc, List, [], ◌∷◌, ◌++◌, refl, sym, ap, subst, ◌∙◌, append_assoc, drop, slice_get, Some, None}
+use Rattle.std.proofs.Common.{◌≡◌, ◌≢◌, ℕ, zero, suc, List, [], ◌∷◌, ◌++◌, refl, sym, ap, subst, ◌∙◌, append_assoc, drop}
 use Rattle.syntax.specs.declared.stop.Stop.{Stop}
 use Rattle.syntax.specs.declared.token.Placed.{Placed}
-use Rattle.syntax.specs.Tokens.{Spot, unknown, lexeme_of, spots_of}
+use Rattle.syntax.specs.Tokens.{Spot, unknown, spots_of}
 use Rattle.syntax.specs.Grammar.{Position}
 use Rattle.syntax.specs.Spelled.{Piece, IsPiece}
 use Rattle.syntax.specs.Expected.{Expected, taken, left_out, wrong, passed, look, next, met, ended, followed, syntax, too_large, run}
@@ -70,11 +70,6 @@ pub stops_behind : {expected more : List Expected} {pieces : List Piece} {before
 stops_behind {expected} {more} {pieces} {before} {middle} others after cause first second = stops_on expected more others before middle after cause first.goes second
 
 -- ---- the cursor
-
-pub front_spot : (n : ℕ) (tokens : List Placed) (placed : Placed) → slice_get tokens n ≡ Some placed → front_of (spots_of (drop n tokens)) ≡ (lexeme_of placed.token, placed.place)
-front_spot n [] placed e = cc
-front_spot zero (token ∷ tokens) placed e = ap (λ it. front_of (spots_of (drop 0 (elim it [ None ↦ [] | Some first ↦ first ∷ tokens ])))) e
-front_spot (suc n) (token ∷ tokens) placed e = front_spot n tokens placed e
 
 pub passed_one : (n : ℕ) (tokens : List Placed) → spots_of (drop (suc n) tokens) ≡ behind_front (spots_of (drop n tokens))
 passed_one zero [] = refl

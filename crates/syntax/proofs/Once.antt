@@ -1,5 +1,5 @@
 -- A text has at most one list of tokens.
-use Rattle.std.proofs.Common.{◌≡◌, ◌≢◌, ℕ, ◌+◌, ◌-◌, ◌<◌, Bool, true, false, ◌⊎◌, if◌then◌else◌, List, [], ◌∷◌, ◌++◌, length, inl, inr, refl, sym, ap, subst, ◌∙◌, arith}
+use Rattle.std.proofs.Common.{◌≡◌, ◌≢◌, ℕ, ◌+◌, ◌-◌, ◌<◌, ◌≤◌, Bool, true, false, ◌⊎◌, if◌then◌else◌, List, [], ◌∷◌, ◌++◌, length, inl, inr, refl, sym, ap, subst, ◌∙◌, arith}
 use Rattle.std.specs.Str.Parse.{digits_value}
 use Rattle.std.proofs.lemmas.Bool.Decides.{nat_tests}
 use Rattle.std.proofs.lemmas.List.{append-nil}
@@ -21,19 +21,19 @@ letter_no_blank byte h = grind (arith, nat_tests)
 digit_no_blank : (byte : ℕ) → is_digit byte ≡ true → is_blank byte ≡ false
 digit_no_blank byte h = grind (arith, nat_tests)
 
--- 0 for a letter, 1 for a digit, and 2 for another character
+-- 0 for a letter, 1 for a digit, 2 for another character, and 3 for a blank or none
 abbrev lead : List ℕ → ℕ
 lead [] = 3
-lead (first ∷ rest) = if is_letter first then 0 else (if is_digit first then 1 else 2)
+lead (first ∷ rest) = if is_letter first then 0 else (if is_digit first then 1 else (if is_blank first then 3 else 2))
 
 letter_leads : (text rest bytes : List ℕ) → bytes ≡ text ++ rest → IsWordText text → lead bytes ≡ 0
 letter_leads [] rest bytes e h = absurd h
-letter_leads (first ∷ more) rest bytes e h = ap lead e ∙ ap (λ (b : Bool). if b then 0 else (if is_digit first then 1 else 2)) h.0
+letter_leads (first ∷ more) rest bytes e h = ap lead e ∙ ap (λ (b : Bool). if b then 0 else (if is_digit first then 1 else (if is_blank first then 3 else 2))) h.0
 
 digit_leads : (digits rest bytes : List ℕ) → bytes ≡ digits ++ rest → digits ≢ [] → AreDigits digits → lead bytes ≡ 1
 digit_leads [] rest bytes e some h = absurd (some refl)
 digit_leads (first ∷ more) rest bytes e some h =
-    ap lead e ∙ ap (λ (b : Bool). if b then 0 else (if is_digit first then 1 else 2)) (digit_no_letter first h.0) ∙ ap (λ (b : Bool). if b then 1 else 2) h.0
+    ap lead e ∙ ap (λ (b : Bool). if b then 0 else (if is_digit first then 1 else (if is_blank first then 3 else 2))) (digit_no_letter first h.0) ∙ ap (λ (b : Bool). if b then 1 else (if is_blank first then 3 else 2)) h.0
 
 sign_leads : (sign : Symbol) (rest : List ℕ) → lead (symbol_text sign ++ rest) ≡ 2
 sign_leads OpenBracket rest = refl
@@ -41,42 +41,48 @@ sign_leads _ rest = refl
 
 none_leads : (bytes : List ℕ) → BeginsNone bytes → lead bytes ≡ 2
 none_leads [] h = absurd h
-none_leads (first ∷ rest) h = ap (λ (b : Bool). if b then 0 else (if is_digit first then 1 else 2)) h.0 ∙ ap (λ (b : Bool). if b then 1 else 2) h.1
+none_leads (first ∷ rest) h =
+    ap (λ (b : Bool). if b then 0 else (if is_digit first then 1 else (if is_blank first then 3 else 2))) h.0 ∙ ap (λ (b : Bool). if b then 1 else (if is_blank first then 3 else 2)) h.1 ∙ ap (λ (b : Bool). if b then 3 else 2) h.2
 
 large_leads : (bytes : List ℕ) → IsTooLarge bytes → lead bytes ≡ 1
 large_leads bytes h = digit_leads h.0 h.1 bytes h.3 h.4.0 h.4.1
 
-unknown_leads : (bytes : List ℕ) → IsTooLarge bytes ⊎ BeginsNone bytes → 0 < lead bytes
-unknown_leads bytes h = elim h [ inl large ↦ omega (arith, large_leads bytes large) | inr none ↦ omega (arith, none_leads bytes none) ]
+-- what a token may begin with
+abbrev least : Lexeme → ℕ
+least (number value) = 1
+least (symbol sign) = 2
+least unknown = 1
+least _ = 0
 
--- ---- at least one character, and the first is no blank
+abbrev most : Lexeme → ℕ
+most (number value) = 1
+most (symbol sign) = 2
+most unknown = 2
+most _ = 0
 
+leads : (lexeme : Lexeme) (bytes rest : List ℕ) → Stands lexeme bytes rest → (least lexeme ≤ lead bytes) × (lead bytes ≤ most lexeme) × (lead bytes < 3)
+leads (name text) bytes rest h = omega (arith, letter_leads text rest bytes h.0 h.1.0)
+leads (word kept) bytes rest h = omega (arith, letter_leads (word_text kept) rest bytes h.0 h.1.0)
+leads (number value) bytes rest h = omega (arith, digit_leads h.0 rest bytes h.1 h.2.0 h.2.1)
+leads (symbol sign) bytes rest h = omega (arith, ap lead h.0 ∙ sign_leads sign rest)
+leads unknown bytes rest h = elim h.1 [ inl large ↦ omega (arith, large_leads bytes large) | inr none ↦ omega (arith, none_leads bytes none) ]
+
+-- at least one character, and the first is no blank
 abbrev Starts : List ℕ → Type 0
 Starts bytes = BeginsWithout is_blank bytes × (bytes ≢ [])
 
-text_starts : (text rest bytes : List ℕ) → bytes ≡ text ++ rest → IsWordText text → Starts bytes
-text_starts [] rest bytes e h = absurd h
-text_starts (first ∷ more) rest bytes e h = subst Starts (sym e) (letter_no_blank first h.0, λ none. absurd (cc))
-
-digits_start : (digits rest bytes : List ℕ) → bytes ≡ digits ++ rest → digits ≢ [] → AreDigits digits → Starts bytes
-digits_start [] rest bytes e some h = absurd (some refl)
-digits_start (first ∷ more) rest bytes e some h = subst Starts (sym e) (digit_no_blank first h.0, λ none. absurd (cc))
-
-sign_starts : (sign : Symbol) (rest : List ℕ) → Starts (symbol_text sign ++ rest)
-sign_starts OpenBracket rest = (refl, λ none. absurd (cc))
-sign_starts _ rest = (refl, λ none. absurd (cc))
-
-none_starts : (bytes : List ℕ) → BeginsNone bytes → Starts bytes
-none_starts [] h = absurd h
-none_starts (first ∷ rest) h = (h.2, λ none. absurd (cc))
-
 starts : (lexeme : Lexeme) (bytes rest : List ℕ) → Stands lexeme bytes rest → Starts bytes
-starts (name text) bytes rest h = text_starts text rest bytes h.0 h.1.0
-starts (word kept) bytes rest h = text_starts (word_text kept) rest bytes h.0 h.1.0
-starts (number value) bytes rest h = digits_start h.0 rest bytes h.1 h.2.0 h.2.1
-starts (symbol sign) bytes rest h = subst Starts (sym h.0) (sign_starts sign rest)
-starts unknown bytes rest h =
-    elim h.1 [ inl large ↦ digits_start large.0 large.1 bytes large.3 large.4.0 large.4.1 | inr none ↦ none_starts bytes none ]
+starts lexeme bytes rest stands = by bytes (leads lexeme bytes rest stands).2
+  where
+    no_blank : (byte : ℕ) (letter digit blank : Bool) → is_letter byte ≡ letter → is_digit byte ≡ digit → is_blank byte ≡ blank → (if letter then 0 else (if digit then 1 else (if blank then 3 else 2))) < 3 → is_blank byte ≡ false
+    no_blank byte true digit blank e f g few = letter_no_blank byte e
+    no_blank byte false true blank e f g few = digit_no_blank byte f
+    no_blank byte false false true e f g few = absurd (omega arith)
+    no_blank byte false false false e f g few = g
+
+    by : (bytes : List ℕ) → lead bytes < 3 → Starts bytes
+    by [] few = absurd (omega arith)
+    by (first ∷ rest) few = (no_blank first (is_letter first) (is_digit first) (is_blank first) refl refl refl few, λ none. absurd (cc))
 
 -- ---- the first token
 
@@ -125,32 +131,19 @@ Same one r two s = (one ≡ two) × (r ≡ s)
 stands_once : (bytes r s : List ℕ) (one two : Lexeme) → Stands one bytes r → Stands two bytes s → Same one r two s
 stands_once bytes r s (name a) (name b) x y = let same = same_texts a b r s (sym x.0 ∙ y.0) x.1 y.1 in (ap name same.0, same.1)
 stands_once bytes r s (name a) (word k) x y = absurd (x.2 k (same_texts a (word_text k) r s (sym x.0 ∙ y.0) x.1 y.1).0)
-stands_once bytes r s (name a) (number n) x y = absurd (omega (arith, letter_leads a r bytes x.0 x.1.0, digit_leads y.0 s bytes y.1 y.2.0 y.2.1))
-stands_once bytes r s (name a) (symbol t) x y = absurd (omega (arith, letter_leads a r bytes x.0 x.1.0, ap lead y.0 ∙ sign_leads t s))
-stands_once bytes r s (name a) unknown x y = absurd (omega (arith, letter_leads a r bytes x.0 x.1.0, unknown_leads bytes y.1))
 stands_once bytes r s (word j) (name b) x y = absurd (y.2 j (sym (same_texts (word_text j) b r s (sym x.0 ∙ y.0) x.1 y.1).0))
 stands_once bytes r s (word j) (word k) x y = let same = same_texts (word_text j) (word_text k) r s (sym x.0 ∙ y.0) x.1 y.1 in (ap word (same_word j k same.0), same.1)
-stands_once bytes r s (word j) (number n) x y = absurd (omega (arith, letter_leads (word_text j) r bytes x.0 x.1.0, digit_leads y.0 s bytes y.1 y.2.0 y.2.1))
-stands_once bytes r s (word j) (symbol t) x y = absurd (omega (arith, letter_leads (word_text j) r bytes x.0 x.1.0, ap lead y.0 ∙ sign_leads t s))
-stands_once bytes r s (word j) unknown x y = absurd (omega (arith, letter_leads (word_text j) r bytes x.0 x.1.0, unknown_leads bytes y.1))
-stands_once bytes r s (number m) (name b) x y = absurd (omega (arith, letter_leads b s bytes y.0 y.1.0, digit_leads x.0 r bytes x.1 x.2.0 x.2.1))
-stands_once bytes r s (number m) (word k) x y = absurd (omega (arith, letter_leads (word_text k) s bytes y.0 y.1.0, digit_leads x.0 r bytes x.1 x.2.0 x.2.1))
 stands_once bytes r s (number m) (number n) x y = let same = same_digits x.0 y.0 r s m n (sym x.1 ∙ y.1) x.2 y.2 in (ap number same.0, same.1)
-stands_once bytes r s (number m) (symbol t) x y = absurd (omega (arith, digit_leads x.0 r bytes x.1 x.2.0 x.2.1, ap lead y.0 ∙ sign_leads t s))
 stands_once bytes r s (number m) unknown x y = absurd (never_large bytes r m x y.1)
-stands_once bytes r s (symbol t) (name b) x y = absurd (omega (arith, letter_leads b s bytes y.0 y.1.0, ap lead x.0 ∙ sign_leads t r))
-stands_once bytes r s (symbol t) (word k) x y = absurd (omega (arith, letter_leads (word_text k) s bytes y.0 y.1.0, ap lead x.0 ∙ sign_leads t r))
-stands_once bytes r s (symbol t) (number n) x y = absurd (omega (arith, digit_leads y.0 s bytes y.1 y.2.0 y.2.1, ap lead x.0 ∙ sign_leads t r))
 stands_once bytes r s (symbol t) (symbol u) x y =
     let long : length (symbol_text t) ≡ length (symbol_text u) = omega (arith, x.1 u (s, y.0), y.1 t (r, x.0)) in
     let same = same_fronts (symbol_text t) (symbol_text u) r s long (sym x.0 ∙ y.0) in
     (ap symbol (same_symbol t u same.0), same.1)
 stands_once bytes r s (symbol t) unknown x y = absurd (never_sign bytes r t x y.1)
-stands_once bytes r s unknown (name b) x y = absurd (omega (arith, letter_leads b s bytes y.0 y.1.0, unknown_leads bytes x.1))
-stands_once bytes r s unknown (word k) x y = absurd (omega (arith, letter_leads (word_text k) s bytes y.0 y.1.0, unknown_leads bytes x.1))
 stands_once bytes r s unknown (number n) x y = absurd (never_large bytes s n y x.1)
 stands_once bytes r s unknown (symbol t) x y = absurd (never_sign bytes s t y x.1)
 stands_once bytes r s unknown unknown x y = (refl, x.0 ∙ sym y.0)
+stands_once bytes r s one two x y = absurd (omega (arith, leads one bytes r x, leads two bytes s y))
 
 -- ---- lists of tokens
 

@@ -1,15 +1,14 @@
--- Tokens are at most one expression, before a token that may follow one: the machine gives it back.
-use Rattle.std.proofs.Common.{◌≡◌, List, [], ◌∷◌, Option, Some, None, refl, sym, ap, ◌∙◌}
+-- Tokens are at most one expression, before a token that may stand behind one: the machine gives it back.
+use Rattle.std.proofs.Common.{◌≡◌, false, true, List, [], ◌∷◌, Option, Some, None, refl, sym, ap, ◌∙◌}
 use Rattle.syntax.specs.Tokens.{Spot}
-use Rattle.syntax.specs.Grammar.{Position, Expr, sum_alone, Sum, prod_alone, unary_alone, literal}
-use Rattle.syntax.specs.Spelled.{expr_pieces, sum_pieces}
-use Rattle.syntax.specs.Limits.{depth_limits, expr_depth, expr_within, sum_within}
+use Rattle.syntax.specs.Grammar.{Position, Expr, sum_alone, prod_alone, unary_alone, literal}
+use Rattle.syntax.specs.Limits.{depth_limits, expr_depth, expr_within}
+use Rattle.syntax.specs.Front.{front_of}
 use Rattle.syntax.specs.Parsed.{Spells}
-use Rattle.syntax.specs.Expected.{never, possible, Expected, operand, behind_operand, earlier, level_expr, sum_of, opened, within, left_out, passed, met, Next, on, nothing_left, at_fault, limit_passed, next}
-use Rattle.syntax.proofs.JudgedExpressions.{so_far, at_product, sum_waits, last_prod, sum_is, expr_level, expr_last, expr_is, expr_goes, sum_goes, AfterExpression, EndsComponent, at_end, at_component_end}
-use Rattle.syntax.proofs.Only.{Only, Front, taken_for}
-
--- ---- where the machine stops
+use Rattle.syntax.specs.Expected.{Comparing, never, possible, behind_left, Expected, whole, operand, behind_operand, earlier, level_expr, opened, within, left_out, passed, Move, met, Next, on, nothing_left, at_fault, limit_passed, next}
+use Rattle.syntax.proofs.Fillings.{Whole, whole_pieces}
+use Rattle.syntax.proofs.Behind.{is_begun, class, stands}
+use Rattle.syntax.proofs.JudgedExpressions.{so_far, whole_expr, whole_level, whole_last, whole_is, whole_goes, end_looks, known_end}
 
 abbrev Stopped : Type 0
 Stopped = List Expected × List Spot
@@ -40,46 +39,23 @@ abbrev held : Stopped → Expr
 held (behind_operand state prod ∷ [], rest) = level_expr state.level prod
 held other = sum_alone (prod_alone (unary_alone (literal 0 0)))
 
--- ---- expressions
+whole_stops : (comparing : Comparing) (it : Whole comparing) (all later : List Spot) → is_begun (whole comparing) ≡ false → stands (class (whole comparing)) (front_of later).0 ≡ true → Spells (whole_pieces comparing it) all later
+    → until (operand (so_far None 0 (opened comparing) []) ∷ []) all ≡ (behind_operand (so_far (earlier None (expr_within 0 (whole_expr comparing it))) 0 (whole_level comparing it) []) (whole_last comparing it) ∷ [], later)
+whole_stops comparing it all [] new stand spells = absurd (known_end comparing new stand)
+whole_stops comparing it all (spot ∷ rest) new stand spells =
+    let before = earlier None (expr_within 0 (whole_expr comparing it)) in
+    let stack = behind_operand (so_far before 0 (whole_level comparing it) []) (whole_last comparing it) ∷ [] in
+    whole_goes until until_on 0 comparing it [] all (spot ∷ rest) new spells
+    ∙ ap (λ (move : Move). stopped (met move [] nothing_left) (stack, spot ∷ rest) (λ more. until more rest)) (end_looks comparing it spot.0 before 0 spot.1 new stand)
+    ∙ stops (depth_limits (expr_depth (level_expr (whole_level comparing it) (whole_last comparing it))) 0) before (stack, spot ∷ rest) (λ more. until more rest)
 
-expression_stops : (expr : Expr) (all later : List Spot) → Front AfterExpression later → Spells (expr_pieces expr) all later
-    → until (operand (so_far None 0 (opened possible) []) ∷ []) all ≡ (behind_operand (so_far (earlier None (expr_within 0 expr)) 0 (expr_level expr) []) (expr_last expr) ∷ [], later)
-expression_stops expr all [] ends spells = absurd ends
-expression_stops expr all (spot ∷ rest) ends spells =
-    let it = taken_for (expr_pieces expr) all (spot ∷ rest) spells in
-    let stack = behind_operand (so_far (earlier None (expr_within 0 expr)) 0 (expr_level expr) []) (expr_last expr) ∷ [] in
-    ap (until (operand (so_far None 0 (opened possible) []) ∷ [])) it.whole
-    ∙ expr_goes until until_on 0 expr None [] [] it.tokens (spot ∷ rest) it.are
-    ∙ ap (λ (after : Next). stopped after (stack, spot ∷ rest) (λ more. until more rest)) (at_end spot.0 ends (earlier None (expr_within 0 expr)) 0 spot.1 (expr_level expr) (expr_last expr) [])
-    ∙ stops (depth_limits (expr_depth (level_expr (expr_level expr) (expr_last expr))) 0) (earlier None (expr_within 0 expr)) (stack, spot ∷ rest) (λ more. until more rest)
+same_whole : (comparing : Comparing) (one two : Whole comparing) → is_begun (whole comparing) ≡ false → whole_expr comparing one ≡ whole_expr comparing two → one ≡ two
+same_whole never one two new same = cc
+same_whole possible one two new same = same
+same_whole (behind_left left how) one two new same = absurd (cc)
 
-pub expression_only : (expr : Expr) → Only (Front AfterExpression) expr_pieces expr
-expression_only expr = record {
-  only = λ other all later rest ends also one two.
-      let same = sym (expression_stops expr all later ends one) ∙ expression_stops other all rest also two in
-      (sym (expr_is expr) ∙ ap held same ∙ expr_is other, ap (λ (stop : Stopped). stop.1) same);
-}
-
--- ---- components
-
-abbrev held_sum : Stopped → Sum
-held_sum (behind_operand state prod ∷ [], rest) = sum_of state.level.sum prod
-held_sum other = prod_alone (unary_alone (literal 0 0))
-
-component_stops : (sum : Sum) (all later : List Spot) → Front EndsComponent later → Spells (sum_pieces sum) all later
-    → until (operand (so_far None 0 (opened never) []) ∷ []) all ≡ (behind_operand (so_far (earlier None (sum_within 0 sum)) 0 (at_product never (sum_waits sum)) []) (last_prod sum) ∷ [], later)
-component_stops sum all [] ends spells = absurd ends
-component_stops sum all (spot ∷ rest) ends spells =
-    let it = taken_for (sum_pieces sum) all (spot ∷ rest) spells in
-    let stack = behind_operand (so_far (earlier None (sum_within 0 sum)) 0 (at_product never (sum_waits sum)) []) (last_prod sum) ∷ [] in
-    ap (until (operand (so_far None 0 (opened never) []) ∷ [])) it.whole
-    ∙ sum_goes until until_on 0 sum never None [] [] it.tokens (spot ∷ rest) it.are
-    ∙ ap (λ (after : Next). stopped after (stack, spot ∷ rest) (λ more. until more rest)) (at_component_end spot.0 ends (earlier None (sum_within 0 sum)) 0 spot.1 (sum_waits sum) (last_prod sum) [])
-    ∙ stops (depth_limits (expr_depth (sum_alone (sum_of (sum_waits sum) (last_prod sum)))) 0) (earlier None (sum_within 0 sum)) (stack, spot ∷ rest) (λ more. until more rest)
-
-pub component_only : (sum : Sum) → Only (Front EndsComponent) sum_pieces sum
-component_only sum = record {
-  only = λ other all later rest ends also one two.
-      let same = sym (component_stops sum all later ends one) ∙ component_stops other all rest also two in
-      (sym (sum_is sum) ∙ ap held_sum same ∙ sum_is other, ap (λ (stop : Stopped). stop.1) same);
-}
+pub whole_only : (comparing : Comparing) (one two : Whole comparing) (all later rest : List Spot) → is_begun (whole comparing) ≡ false → stands (class (whole comparing)) (front_of later).0 ≡ true
+    → stands (class (whole comparing)) (front_of rest).0 ≡ true → Spells (whole_pieces comparing one) all later → Spells (whole_pieces comparing two) all rest → (one ≡ two) × (later ≡ rest)
+whole_only comparing one two all later rest new stand also x y =
+    let same = sym (whole_stops comparing one all later new stand x) ∙ whole_stops comparing two all rest new also y in
+    (same_whole comparing one two new (sym (whole_is comparing one) ∙ ap held same ∙ whole_is comparing two), ap (λ (stop : Stopped). stop.1) same)

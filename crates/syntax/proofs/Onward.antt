@@ -11,6 +11,7 @@ use Rattle.syntax.specs.Expected.{Comparing, never, possible, behind_left, Level
 use Rattle.syntax.specs.Expected.{negating, bracketing, without_product, awaiting_product, awaiting_sum, awaiting_comparison, closed}
 use Rattle.syntax.specs.Front.{front_of, behind_front}
 use Rattle.syntax.specs.Partial.{read_so_far, IsClear, IsSumAlone, Onward, outermost, state_pieces, state_limits, level_limits, sum_limits_before, product_limits_before, comparison_limits_before, minus_pieces, sum_waiting, product_waiting, comparison_waiting}
+use Rattle.syntax.proofs.Covers.{both_none}
 use Rattle.syntax.proofs.Moves.{took, spelled_one, spelled_on}
 
 -- one more token
@@ -127,15 +128,11 @@ pub clear_awaiting_comparison : (state : Expression) (prod : Prod) (how : Compar
     → IsClear (operand (awaiting_comparison state prod how))
 clear_awaiting_comparison state prod how may none clear e = simp (none, added_within, append_assoc, append-nil) (simp (may, none, append_assoc, append-nil) at (clear e))
 
-pub both_empty : {X : Type 0} (one two : List X) → one ++ two ≡ [] → (one ≡ []) × (two ≡ [])
-both_empty [] two e = (refl, e)
-both_empty (x ∷ one) two e = cc
-
 pub clear_closing : (state : Expression) (level : Level) (place : Position) (outer : List (Level × Position)) (prod : Prod) → state.outer ≡ (level, place) ∷ outer → state.level.product ≡ None
     → IsClear (behind_operand state prod)
     → IsClear (behind_operand (without_product (closed state level outer)) (product_behind (closed state level outer) (bracketed place (level_expr state.level prod))))
 clear_closing state level place outer prod around none clear =
-    let parts = λ (e : state.passed ≡ None). both_empty (state_limits (closed state level outer)) (unary_within (length outer) (bracketed place (level_expr state.level prod)))
+    let parts = λ (e : state.passed ≡ None). both_none (state_limits (closed state level outer)) (unary_within (length outer) (bracketed place (level_expr state.level prod)))
     (simp (none, level_within, compared_within, added_within, append_assoc, append-nil) (simp (around, none, append_assoc, append-nil) at (clear e))) in
     clear_operand (closed state level outer) (bracketed place (level_expr state.level prod)) (λ e. (parts e).1) (λ e. (parts e).0)
 

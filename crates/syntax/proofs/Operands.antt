@@ -1,6 +1,6 @@
 -- Operands, as operators make them.
-use Rattle.std.proofs.Common.{◌≡◌, ℕ, ◌-◌, ◌+◌, ◌<◌, ◌≤◌, suc, max, List, [], ◌∷◌, length, sym, subst, arith, Box, Global, inl, inr}
-use Rattle.steptree.specs.declared.step.NamedExpression.{NamedExpression, Negation}
+use Rattle.std.proofs.Common.{◌≡◌, ℕ, ◌-◌, ◌+◌, ◌<◌, ◌≤◌, List, [], ◌∷◌, length, sym, subst, arith, Box, Global, inl, inr}
+use Rattle.steptree.specs.Tree.{NamedExpression, Negation}
 use Rattle.syntax.specs.declared.limits.TheConstants.{MOST_DEPTH}
 use Rattle.syntax.specs.declared.operand.Operand.TheVariants.{Kept}
 use Rattle.syntax.specs.Grammar.{Position, Unary, negated}
@@ -10,7 +10,7 @@ use Rattle.syntax.specs.Expected.{negated_by}
 use Rattle.syntax.specs.Partial.{HoldsUnary, Counts}
 
 pub one_minus_more : (times : ℕ) (tree new : NamedExpression) (box : Box NamedExpression Global) → 0 < times → box.value ≡ tree
-    → ((positions : List Position) (unary : Unary) → length positions ≡ times - 1 → IsUnary unary (Negation box) → IsUnary (negated_by positions unary) new)
+    → ((positions : List Position) (unary : Unary) → length positions ≡ times - 1 → IsUnary unary (Negation box.value) → IsUnary (negated_by positions unary) new)
     → (positions : List Position) (unary : Unary) → length positions ≡ times → IsUnary unary tree → IsUnary (negated_by positions unary) new
 one_minus_more times tree new box some is rest [] unary e one = absurd (omega (arith, e))
 one_minus_more times tree new box some is rest (position ∷ positions) unary e one =
@@ -40,14 +40,3 @@ negated_too_many times depth positions unary tree many (inr both) holds = omega 
 
 pub negated_too_deep : (positions : List Position) (unary : Unary) → MOST_DEPTH < unary_depth unary → MOST_DEPTH < unary_depth (negated_by positions unary)
 negated_too_deep positions unary deep = omega (arith, negated_depth positions unary, deep)
-
--- ---- operations
-
-pub left_deep : (left right : ℕ) → MOST_DEPTH < left → MOST_DEPTH < suc (max left right)
-left_deep left right deep = omega (arith, deep)
-
-pub right_deep : (left right : ℕ) → MOST_DEPTH < right → MOST_DEPTH < suc (max left right)
-right_deep left right deep = omega (arith, deep)
-
-pub one_deeper : (left right : ℕ) → left < MOST_DEPTH → right < MOST_DEPTH → suc (max left right) ≤ MOST_DEPTH
-one_deeper left right one two = omega (arith, one, two)

@@ -45,15 +45,6 @@ ascii [] h i = lit< tt
 ascii (first ∷ rest) h zero = h.0
 ascii (first ∷ rest) h (suc i) = ascii rest h.1 i
 
-pub ascii_text : (bytes : List ℕ) → IsAscii bytes → AllByRecursion (λ byte. byte < 128) bytes
-ascii_text [] h = tt
-ascii_text (first ∷ rest) h = (h 0, ascii_text rest (λ i. h (suc i)))
-
-pub ascii_drop : (n : ℕ) (bytes : List ℕ) → AllByRecursion (λ byte. byte < 128) bytes → AllByRecursion (λ byte. byte < 128) (drop n bytes)
-ascii_drop zero bytes h = h
-ascii_drop (suc n) [] h = tt
-ascii_drop (suc n) (first ∷ rest) h = ascii_drop n rest h.1
-
 -- such a text may be cut anywhere
 pub boundary : (text : List ℕ) (n : ℕ) → AllByRecursion (λ byte. byte < 128) text → n ≤ length text → IsCharBoundary text n
 boundary text n h within = IsCharBoundary-from_ascii text n (ascii text h) within

@@ -2,9 +2,8 @@
 use Rattle.std.proofs.Common.{◌≡◌, ℕ, suc, List, [], ◌∷◌, ◌++◌, true, false, drop, refl, sym, ap, subst, ◌∙◌, append_assoc, Some, None}
 use Rattle.std.proofs.lemmas.List.{append-nil}
 use Rattle.steptree.specs.declared.step.Name.{Name}
-use Rattle.steptree.specs.declared.step.NamedBlock.{NamedBlock}
-use Rattle.steptree.specs.declared.step.NamedBlock.TheVariants as block
-use Rattle.steptree.specs.declared.step.NamedExpression.{NamedExpression}
+use Rattle.steptree.specs.Tree.{NamedBlock, NamedExpression}
+use Rattle.steptree.specs.Tree as block
 use Rattle.syntax.specs.declared.stop.Stop.{Stop}
 use Rattle.syntax.specs.declared.limits.TheConstants.{MOST_BRACES}
 use Rattle.syntax.specs.declared.token.Word.TheVariants as kept
@@ -18,22 +17,17 @@ use Rattle.syntax.specs.Expected.{Part, exactly, keyword, a_name, whole, possibl
 use Rattle.syntax.specs.Parsed.{Reads, Stops, TakenIfWord, named_of}
 use Rattle.syntax.specs.Blocks.{IsAssignment}
 use Rattle.syntax.specs.Statements.{Own, own_pieces, own_limits, is_own, Second, second_pieces, second_limits, IsSecond, choice_of, IsSecondRead, IsBraceRead, IsNestedRead, AreRead, choice_expected, repetition_expected}
+use Rattle.syntax.proofs.Covers.{both_none}
 use Rattle.syntax.proofs.Moves.{reads_on, stops_behind}
 
 pub assigned_is : (part : Part) (name : Name) (expr : Expr) (tree rest : NamedBlock) → IsAssignment name expr tree rest → IsStatement (is_own part) (assigned (named_of name) expr) tree (λ other. other ≡ rest)
-assigned_is part name expr (block.Assign' other value p behind) rest is =
+assigned_is part name expr (block.Assign other value behind) rest is =
     ((ap (λ (it : Name). it.text.now) is.0, ap (λ (it : Name). it.place) is.0), is.1, is.2)
 assigned_is part name expr _ rest is = absurd is
 
 pub behind_put : (put : Put) → plain (word kept.Put) ∷ drop 1 (put_pieces put) ≡ put_pieces put
 behind_put (put_item item value) = refl
 behind_put (put_tag tag) = refl
-
--- ---- lists
-
-pub both_none : {X : Type 0} (xs ys : List X) → xs ++ ys ≡ [] → (xs ≡ []) × (ys ≡ [])
-both_none [] ys e = (refl, e)
-both_none (x ∷ xs) ys e = cc
 
 -- ---- a block in braces
 
@@ -103,11 +97,11 @@ choice_limits part around expr brace first (Some second) one two three =
     let others = both_none (one_more MOST_BRACES around second.0) (statements_limits (own_limits part) (suc around) second.1) three in
     rw (one, parts.0, parts.1, others.0, others.1) refl
 
-pub choice_is : (part : Part) (expr : Expr) (brace : Position) (first : Statements (Own part)) (second : Second part) (value : NamedExpression) (one two : NamedBlock) (p q r : _) (rest : NamedBlock)
+pub choice_is : (part : Part) (expr : Expr) (brace : Position) (first : Statements (Own part)) (second : Second part) (value : NamedExpression) (one two : NamedBlock) (rest : NamedBlock)
     → IsExpr expr value → AreStatements (is_own part) first one → IsSecond part second two
-    → IsStatement (is_own part) (choice_of part expr brace first second) (block.If' value p one q two r rest) (λ other. other ≡ rest)
-choice_is part expr brace first None value one two p q r rest condition are second = (condition, are, second, refl)
-choice_is part expr brace first (Some other) value one two p q r rest condition are second = (condition, are, second, refl)
+    → IsStatement (is_own part) (choice_of part expr brace first second) (block.If value one two rest) (λ other. other ≡ rest)
+choice_is part expr brace first None value one two rest condition are second = (condition, are, second, refl)
+choice_is part expr brace first (Some other) value one two rest condition are second = (condition, are, second, refl)
 
 -- ---- a repetition
 

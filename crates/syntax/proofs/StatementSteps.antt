@@ -1,8 +1,8 @@
 -- A statement, and the statements after it.
 use Rattle.std.proofs.Common.{◌≡◌, ℕ, List, [], ◌∷◌, ◌++◌, drop, refl, sym, ap, subst, ◌∙◌, append_assoc}
 use Rattle.std.specs.List.{flat_map}
-use Rattle.steptree.specs.declared.step.NamedBlock.{NamedBlock}
-use Rattle.steptree.specs.declared.step.NamedBlock.TheVariants as block
+use Rattle.steptree.specs.Tree.{NamedBlock, joined}
+use Rattle.steptree.specs.Tree as block
 use Rattle.syntax.specs.declared.stop.Stop.{Stop}
 use Rattle.syntax.specs.declared.token.Word.{Word}
 use Rattle.syntax.specs.declared.token.Word.TheVariants as kept
@@ -11,12 +11,12 @@ use Rattle.syntax.specs.Grammar.{Position, Statement, own, assigned, if_alone, i
 use Rattle.syntax.specs.Limits.{name_limits, statement_limits, statements_limits}
 use Rattle.syntax.specs.Spelled.{statement_pieces, statements_pieces}
 use Rattle.syntax.specs.Tree.{IsStatement, AreStatements, AreAll}
-use Rattle.syntax.specs.Expected.{Part, reading, writing, Expected, a_name, keyword, statements, look, look_statement, taken, left_out, within, Next, met, next, followed, run}
+use Rattle.syntax.specs.Expected.{Part, reading, writing, Expected, a_name, keyword, statements, look, taken, within, Next, met, next, followed, run}
 use Rattle.syntax.specs.Front.{front_of}
 use Rattle.syntax.specs.Blocks.{assignment_rest}
 use Rattle.syntax.specs.Parsed.{Spells, Goes, Reads, Tells, Stops}
-use Rattle.syntax.specs.Statements.{Own, own_word, own_rest, own_pieces, own_limits, is_own, assignment_expected, choice_expected, repetition_expected, own_expected, IsFirst, IsStatementRead, NoneBegins, joined, statements_of, StatementsSoFar, AreRead}
-use Rattle.syntax.proofs.Moves.{took, skipped, reads_on}
+use Rattle.syntax.specs.Statements.{Own, own_word, own_rest, own_pieces, own_limits, is_own, assignment_expected, choice_expected, repetition_expected, own_expected, IsFirst, IsStatementRead, NoneBegins, statements_of, StatementsSoFar, AreRead}
+use Rattle.syntax.proofs.Moves.{took, reads_on}
 use Rattle.syntax.proofs.Forward.{known}
 use Rattle.syntax.proofs.KeyParts.{flat_more, all_more}
 
@@ -61,9 +61,6 @@ pub own_begins : (part : Part) (around : ℕ) (spots : List Spot) → (front_of 
 own_begins reading around spots is = word_begins reading around kept.Get (own_rest reading) spots is refl refl
 own_begins writing around spots is = word_begins writing around kept.Put (own_rest writing) spots is refl refl
 
-pub none_begins : (part : Part) (around : ℕ) (spots : List Spot) → ((around : ℕ) (place : Position) → look_statement part around (front_of spots).0 place ≡ left_out) → NoneBegins part around spots spots
-none_begins part around spots none = record { same = refl; goes = λ behind. skipped (statements part around) behind spots (none around (front_of spots).1) }
-
 same_run : (part : Part) (around : ℕ) (expected behind : List Expected) (before : List Spot) → MayBegin part around expected before
     → run (statements part around ∷ behind) before ≡ run (expected ++ (statements part around ∷ behind)) before
 same_run part around expected behind before begins = begins behind ∙ ap (λ stack. run stack before) (append_assoc expected (statements part around ∷ []) behind)
@@ -83,9 +80,6 @@ statement_stops part around expected before after cause begins stops behind =
     subst (Tells cause after) (sym (same_run part around expected behind before begins)) (stops (statements part around ∷ behind))
 
 -- ---- statements one after another
-
-pub no_statements : (part : Part) (around : ℕ) (start : List Spot) → StatementsSoFar part around start start []
-no_statements part around start = record { read = []; reads = record { spells = refl; goes = λ behind. refl }; are = tt; within = refl }
 
 pub next_statement : (part : Part) (around : ℕ) (start now after : List Spot) (trees : List NamedBlock) (tree : NamedBlock) → StatementsSoFar part around start now trees
     → IsStatementRead part around (statements part around ∷ []) (statements part around ∷ []) tree now after → StatementsSoFar part around start after (trees ++ tree ∷ [])
@@ -108,19 +102,19 @@ all_limits part around (first ∷ read) = ap (λ limits. statement_limits (own_l
 -- ---- what follows a statement
 
 own_weaker : (part : Part) (it : Own part) (tree : NamedBlock) (P Q : NamedBlock → Type 0) → ((other : NamedBlock) → P other → Q other) → is_own part it tree P → is_own part it tree Q
-own_weaker reading get (block.Get' variable key p rest) P Q weaker is = (is.0, is.1, weaker rest is.2)
+own_weaker reading get (block.Get variable collection components rest) P Q weaker is = (is.0, is.1, weaker rest is.2)
 own_weaker reading get _ P Q weaker is = absurd is
-own_weaker writing (put_item item expr) (block.PutItem' key value p rest) P Q weaker is = (is.0, is.1, weaker rest is.2)
-own_weaker writing (put_tag tag) (block.PutTag' key p rest) P Q weaker is = (is.0, weaker rest is.1)
+own_weaker writing (put_item item expr) (block.PutItem collection components value rest) P Q weaker is = (is.0, is.1, weaker rest is.2)
+own_weaker writing (put_tag tag) (block.PutTag collection components rest) P Q weaker is = (is.0, weaker rest is.1)
 own_weaker writing put _ P Q weaker is = absurd is
 
 statement_weaker : (part : Part) (statement : Statement (Own part)) (tree : NamedBlock) (P Q : NamedBlock → Type 0) → ((other : NamedBlock) → P other → Q other)
     → IsStatement (is_own part) statement tree P → IsStatement (is_own part) statement tree Q
 statement_weaker part (own it) tree P Q weaker is = own_weaker part it tree P Q weaker is
-statement_weaker part (assigned it expr) (block.Assign' variable value p rest) P Q weaker is = (is.0, is.1, weaker rest is.2)
-statement_weaker part (if_alone condition brace first) (block.If' value p one q two r rest) P Q weaker is = (is.0, is.1, is.2, weaker rest is.3)
-statement_weaker part (if_else condition brace first other second) (block.If' value p one q two r rest) P Q weaker is = (is.0, is.1, is.2, weaker rest is.3)
-statement_weaker part (for it from to brace inner) (block.For' variable low high p other q rest) P Q weaker is = (is.0, is.1, is.2, is.3, weaker rest is.4)
+statement_weaker part (assigned it expr) (block.Assign variable value rest) P Q weaker is = (is.0, is.1, weaker rest is.2)
+statement_weaker part (if_alone condition brace first) (block.If value one two rest) P Q weaker is = (is.0, is.1, is.2, weaker rest is.3)
+statement_weaker part (if_else condition brace first other second) (block.If value one two rest) P Q weaker is = (is.0, is.1, is.2, weaker rest is.3)
+statement_weaker part (for it from to brace inner) (block.For variable low high other rest) P Q weaker is = (is.0, is.1, is.2, is.3, weaker rest is.4)
 statement_weaker part statement _ P Q weaker is = absurd is
 
 are_joined : (part : Part) (read : List (Statement (Own part))) (trees : List NamedBlock) → AreAll (IsFirst part) read trees → AreStatements (is_own part) (statements_of read) (joined trees block.End)

@@ -23,7 +23,7 @@ use Rattle.syntax.specs.Steps.{part_expected, IsPartRead, step_expected, IsStepR
 use Rattle.syntax.proofs.Moves.{spelled_on, reads_on}
 use Rattle.syntax.proofs.KeyParts.{flat_more, all_more}
 use Rattle.syntax.proofs.Partials.{as_many, few_more}
-use Rattle.syntax.proofs.StatementParts.{both_none}
+use Rattle.syntax.proofs.Covers.{both_none}
 
 -- ---- a part
 

@@ -1,8 +1,9 @@
 -- The machine, with a choice of which limit of a whole expression it reports, and reporting none of one that breaks off.
-use Rattle.std.proofs.Common.{◌≡◌, ◌≢◌, List, [], ◌∷◌, Option, Some, None, refl, sym, ap, ◌∙◌}
+use Rattle.std.proofs.Common.{◌≡◌, false, List, [], ◌∷◌, Option, Some, None, refl, sym, ap, ◌∙◌}
 use Rattle.syntax.specs.Tokens.{Lexeme, unknown, Spot}
 use Rattle.syntax.specs.Grammar.{Position}
 use Rattle.syntax.specs.Expected.{Level, Expected, whole, operand, behind_operand, Move, taken, left_out, wrong, passed, look, Next, on, nothing_left, at_fault, limit_passed, met, next, Verdict, ended, followed, run}
+use Rattle.syntax.proofs.Behind.{is_expression}
 
 -- what is reported sooner of a whole expression that passes both
 pub data Sooner : Type 0 where
@@ -110,21 +111,14 @@ run_on telling stack more spot spots is = ap (λ (it : Next). followed it (spot 
 
 -- ---- where no expression is expected
 
--- what the first expected thing does, which is no expression
-abbrev pub plainly : Expected → Lexeme → Position → Move
-plainly (whole comparing) lexeme place = wrong
-plainly (operand state) lexeme place = wrong
-plainly (behind_operand state prod) lexeme place = wrong
-plainly first lexeme place = look first lexeme place
-
 unchanged : (move : Move) → changed passed move ≡ move
 unchanged (taken more) = refl
 unchanged left_out = refl
 unchanged wrong = refl
 unchanged (passed place) = refl
 
-pub plain_so : (telling : Telling) (first : Expected) (lexeme : Lexeme) (place : Position) (move : Move) → move ≢ wrong → plainly first lexeme place ≡ move → look_so telling first lexeme place ≡ move
-plain_so telling (whole comparing) lexeme place move not_wrong is = absurd (not_wrong (sym is))
-plain_so telling (operand state) lexeme place move not_wrong is = absurd (not_wrong (sym is))
-plain_so telling (behind_operand state prod) lexeme place move not_wrong is = absurd (not_wrong (sym is))
-plain_so telling first lexeme place move not_wrong is = unchanged (look first lexeme place) ∙ is
+pub plain_so : (telling : Telling) (first : Expected) (lexeme : Lexeme) (place : Position) → is_expression first ≡ false → look_so telling first lexeme place ≡ look first lexeme place
+plain_so telling (whole comparing) lexeme place plain = absurd (cc)
+plain_so telling (operand state) lexeme place plain = absurd (cc)
+plain_so telling (behind_operand state prod) lexeme place plain = absurd (cc)
+plain_so telling first lexeme place plain = unchanged (look first lexeme place)

@@ -1,7 +1,7 @@
 -- On the way through an expression, and at its end.
-use Rattle.std.proofs.Common.{◌≡◌, ◌<◌, List, [], ◌∷◌, ◌++◌, length, refl, sym, ap, subst, ◌∙◌, arith, Option, Some, None, append_assoc, Bool, true, false}
+use Rattle.std.proofs.Common.{◌≡◌, ◌<◌, ◌≤◌, List, [], ◌∷◌, ◌++◌, length, refl, sym, ap, subst, ◌∙◌, arith, Option, Some, None, append_assoc, Bool, true, false}
 use Rattle.std.proofs.lemmas.List.{append-nil}
-use Rattle.steptree.specs.declared.step.NamedExpression.{NamedExpression}
+use Rattle.steptree.specs.Tree.{NamedExpression}
 use Rattle.syntax.specs.declared.operand.Operand.{Operand}
 use Rattle.syntax.specs.declared.partial.Partial.{Partial}
 use Rattle.syntax.specs.declared.stop.Stop.{Stop}
@@ -26,28 +26,23 @@ from_on comparing from to start now after way step = record {
   alone = λ e. step.alone (way.alone e);
 }
 
+-- from any place on the way to the next one
+reached_on : (comparing : Comparing) (from : Expected) (start now after : List Spot) (product : Option Operand) (new : Partial) → From comparing from start now → length now ≤ length start → Follows from now after product new
+    → length after < length now → Reached comparing start after product new
+reached_on comparing from start now after None new way short next fewer = (next.0, next.1, from_on comparing from (operand next.0) start now after way next.2, omega (arith, short, fewer))
+reached_on comparing from start now after (Some product) new way short next fewer =
+    (next.0, next.1, next.2, next.3, next.4, from_on comparing from (behind_operand next.0 next.1) start now after way next.5, omega (arith, short, fewer))
+
 pub begun_on : (comparing : Comparing) (start now after : List Spot) (product : Option Operand) (old new : Partial) → Reached comparing start now None old
     → ((state : Expression) → IsPartial state old → Follows (operand state) now after product new) → length after < length now → Reached comparing start after product new
-begun_on comparing start now after None old new reached follows fewer =
-    let next = follows reached.0 reached.1 in
-    (next.0, next.1, from_on comparing (operand reached.0) (operand next.0) start now after reached.2 next.2, omega (arith, reached.3, fewer))
-begun_on comparing start now after (Some product) old new reached follows fewer =
-    let next = follows reached.0 reached.1 in
-    (next.0, next.1, next.2, next.3, next.4, from_on comparing (operand reached.0) (behind_operand next.0 next.1) start now after reached.2 next.5, omega (arith, reached.3, fewer))
+begun_on comparing start now after product old new reached follows fewer = reached_on comparing (operand reached.0) start now after product new reached.2 reached.3 (follows reached.0 reached.1) fewer
 
-pub awaits_on : (comparing : Comparing) (start now after : List Spot) (product : Operand) (old new : Partial) → Reached comparing start now (Some product) old
-    → ((state : Expression) (prod : Prod) → IsPartial state old → IsBehind state → HoldsProd prod product → Follows (behind_operand state prod) now after None new) → length after < length now
-    → Reached comparing start after None new
-awaits_on comparing start now after product old new reached follows fewer =
-    let next = follows reached.0 reached.1 reached.2 reached.3 reached.4 in
-    (next.0, next.1, from_on comparing (behind_operand reached.0 reached.1) (operand next.0) start now after reached.5 next.2, omega (arith, reached.6, fewer))
-
-pub product_on : (comparing : Comparing) (start now after : List Spot) (product closed : Operand) (old new : Partial) → Reached comparing start now (Some product) old
-    → ((state : Expression) (prod : Prod) → IsPartial state old → IsBehind state → HoldsProd prod product → Follows (behind_operand state prod) now after (Some closed) new) → length after < length now
-    → Reached comparing start after (Some closed) new
-product_on comparing start now after product closed old new reached follows fewer =
-    let next = follows reached.0 reached.1 reached.2 reached.3 reached.4 in
-    (next.0, next.1, next.2, next.3, next.4, from_on comparing (behind_operand reached.0 reached.1) (behind_operand next.0 next.1) start now after reached.5 next.5, omega (arith, reached.6, fewer))
+pub product_on : (comparing : Comparing) (start now after : List Spot) (product : Operand) (more : Option Operand) (old new : Partial) → Reached comparing start now (Some product) old
+    → ((state : Expression) (prod : Prod) → IsPartial state old → IsBehind state → HoldsProd prod product → Follows (behind_operand state prod) now after more new) → length after < length now
+    → Reached comparing start after more new
+product_on comparing start now after product more old new reached follows fewer =
+    let short : length now ≤ length start = omega (arith, reached.6) in
+    reached_on comparing (behind_operand reached.0 reached.1) start now after more new reached.5 short (follows reached.0 reached.1 reached.2 reached.3 reached.4) fewer
 
 -- ---- the end
 

@@ -1,8 +1,7 @@
 -- Statements that are read one by one, each as a block that ends after it.
 use Rattle.std.specs.Prelude.{◌≡◌, List, [], ◌∷◌, ◌++◌, drop}
 use Rattle.steptree.specs.declared.step.Name.{Name}
-use Rattle.steptree.specs.declared.step.NamedBlock.{NamedBlock}
-use Rattle.steptree.specs.declared.step.NamedBlock.TheVariants as block
+use Rattle.steptree.specs.Tree.{NamedBlock, Assign, with_rest}
 use Rattle.syntax.specs.declared.token.Symbol.TheVariants as sign
 use Rattle.syntax.specs.Tokens.{Spot}
 use Rattle.syntax.specs.Grammar.{Get, Key, Put, put_item, put_tag, Expr}
@@ -11,16 +10,6 @@ use Rattle.syntax.specs.Spelled.{get_pieces, put_pieces, expr_pieces, a_sign}
 use Rattle.syntax.specs.Tree.{IsExpr, IsGet, IsPut}
 use Rattle.syntax.specs.Expected.{Expected, exactly, whole, possible, get_rest, put_target, key_rest, item, tag}
 use Rattle.syntax.specs.Parsed.{Reads}
-
--- the first statement of a block, with `rest` after it
-abbrev pub with_rest : NamedBlock → NamedBlock → NamedBlock
-with_rest block.End rest = rest
-with_rest (block.Assign' name value p other) rest = block.Assign' name value p rest
-with_rest (block.If' condition p first q second r other) rest = block.If' condition p first q second r rest
-with_rest (block.For' name from to p inner q other) rest = block.For' name from to p inner q rest
-with_rest (block.Get' name key p other) rest = block.Get' name key p rest
-with_rest (block.PutItem' key value p other) rest = block.PutItem' key value p rest
-with_rest (block.PutTag' key p other) rest = block.PutTag' key p rest
 
 -- after the word `get`
 pub record IsGetRead (tree : NamedBlock) (before after : List Spot) : Type 0 where
@@ -62,7 +51,7 @@ abbrev pub assignment_rest : List Expected
 assignment_rest = exactly sign.Assign ∷ whole possible ∷ exactly sign.Semicolon ∷ []
 
 abbrev pub IsAssignment : Name → Expr → NamedBlock → NamedBlock → Type 0
-IsAssignment name expr (block.Assign' other value _ behind) rest = (other ≡ name) × IsExpr expr value × (behind ≡ rest)
+IsAssignment name expr (Assign other value behind) rest = (other ≡ name) × IsExpr expr value × (behind ≡ rest)
 IsAssignment name expr tree rest = ⊥
 
 pub record IsValueRead (tree : NamedBlock) (name : Name) (before after : List Spot) : Type 0 where

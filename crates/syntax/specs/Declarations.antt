@@ -5,6 +5,7 @@ use Rattle.terms.specs.declared.key.TheConstants.{MAX_COMPONENTS}
 use Rattle.syntax.specs.declared.declarations.Front.{Front}
 use Rattle.syntax.specs.declared.declarations.Front.TheVariants as begins
 use Rattle.syntax.specs.declared.preamble.Preamble.{Preamble}
+use Rattle.syntax.specs.declared.stop.Stop.{Stop}
 use Rattle.syntax.specs.declared.token.Symbol.{Symbol}
 use Rattle.syntax.specs.declared.token.Symbol.TheVariants as sign
 use Rattle.syntax.specs.declared.tree.Declaration.{Declaration as Declared}
@@ -13,10 +14,10 @@ use Rattle.syntax.specs.declared.tree.Relation.{Relation as Related}
 use Rattle.syntax.specs.Tokens.{Spot}
 use Rattle.syntax.specs.Grammar.{Position, Names, Declaration, Relation}
 use Rattle.syntax.specs.Limits.{name_limits, names_behind, all_names, declarations_limits, relation_limits}
-use Rattle.syntax.specs.Spelled.{Piece, a_sign, names_pieces, after_colon, declaration_pieces, relation_pieces}
+use Rattle.syntax.specs.Spelled.{Piece, a_sign, sign_at, names_pieces, after_colon, declaration_pieces, relation_pieces}
 use Rattle.syntax.specs.Tree.{AreAll, IsDeclaration, IsRelation}
-use Rattle.syntax.specs.Expected.{Kind, item, tag, Expected, exactly, declarations, front_named, front_closed, component_name, relations, declared, declared_limits, closing}
-use Rattle.syntax.specs.Parsed.{Reads}
+use Rattle.syntax.specs.Expected.{Kind, item, tag, Expected, exactly, declarations, front as after_bracket, front_named, front_closed, component_name, relations, declared, declared_limits, closing}
+use Rattle.syntax.specs.Parsed.{Reads, Stops}
 use Rattle.syntax.specs.NameLists.{IsFull}
 use Rattle.syntax.specs.Relations.{IsRelationRest, reader_rest, prescribed_step}
 
@@ -75,6 +76,37 @@ abbrev pub IsFront : List Expected → List Piece → List Piece → ℕ → ℕ
 IsFront expected one two items tags (begins.Item name count) before after = IsDeclarationRest expected one items tags (suc items) tags (declares.Item name count) before after
 IsFront expected one two items tags (begins.Tag name count) before after = IsDeclarationRest expected one items tags items (suc tags) (declares.Tag name count) before after
 IsFront expected one two items tags (begins.Relation tree) before after = IsRelationRest expected (relations ∷ []) two [] tree before after
+
+-- ---- what is read where there is room for one more collection, or is none, whatever stands before
+
+-- after the closing bracket
+abbrev pub ReadsEnd : Position → Bool → Bool → List Spot → List Spot → Type 0
+ReadsEnd place full ends before after = (kind : Kind) (items tags : ℕ) → IsFullOf kind items tags full → IsEnd kind items tags place ends before after
+
+abbrev pub StopsAtEnd : Position → Bool → List Spot → List Spot → Stop → Type 0
+StopsAtEnd place full before after stop = (kind : Kind) (items tags : ℕ) → IsFullOf kind items tags full → Stops (front_closed kind items tags place ∷ []) before after stop
+
+-- after the name, with this closing bracket
+abbrev pub ReadsBehindName : Symbol → Position → Bool → Option ℕ → List Spot → List Spot → Type 0
+ReadsBehindName close place full count before after = (kind : Kind) (items tags : ℕ) → close ≡ closing kind → IsFullOf kind items tags full → IsBehindName kind items tags place count before after
+
+abbrev pub StopsBehindName : Symbol → Position → Bool → List Spot → List Spot → Stop → Type 0
+StopsBehindName close place full before after stop = (kind : Kind) (items tags : ℕ) → close ≡ closing kind → IsFullOf kind items tags full
+    → Stops (front_named kind items tags place ∷ []) before after stop
+
+-- after the opening bracket of an item, which is at this place, and of a tag
+abbrev pub ReadsItemFront : Position → Bool → Front → List Spot → List Spot → Type 0
+ReadsItemFront place full begun before after = (items tags : ℕ) → IsFullOf item items tags full
+    → IsFront (after_bracket item items tags ∷ []) (a_sign sign.OpenBracket) (sign_at place sign.OpenBracket) items tags begun before after
+
+abbrev pub ReadsTagFront : Bool → Front → List Spot → List Spot → Type 0
+ReadsTagFront full begun before after = (items tags : ℕ) → IsFullOf tag items tags full
+    → IsFront (after_bracket tag items tags ∷ []) (a_sign sign.Less) (a_sign sign.Less) items tags begun before after
+
+abbrev pub StopsAtFront : Kind → Bool → List Spot → List Spot → Stop → Type 0
+StopsAtFront kind full before after stop = (items tags : ℕ) → IsFullOf kind items tags full → Stops (after_bracket kind items tags ∷ []) before after stop
+
+-- ---- all declarations
 
 -- if neither begins here, relations may come
 abbrev pub IsFrontOrNone : ℕ → ℕ → Option Front → List Spot → List Spot → Type 0

@@ -1,8 +1,9 @@
 -- A key that is read, and its components.
 use Rattle.std.specs.Prelude.{◌≡◌, List, [], ◌∷◌, ◌++◌}
 use Rattle.std.specs.List.{flat_map}
-use Rattle.steptree.specs.declared.step.NamedExpression.{NamedExpression}
-use Rattle.steptree.specs.declared.step.NamedKey.{NamedKey}
+use Rattle.steptree.specs.Tree.{NamedExpression}
+use Rattle.syntax.specs.declared.keys.NamedKey.{NamedKey}
+use Rattle.syntax.specs.declared.token.Symbol.{Symbol}
 use Rattle.syntax.specs.Tokens.{Spot}
 use Rattle.syntax.specs.Grammar.{Sum, Sums, no_sums, sums, Key}
 use Rattle.syntax.specs.Limits.{sum_limits, sums_limits, key_limits}
@@ -34,5 +35,9 @@ pub record ComponentsSoFar (start now : List Spot) (expressions : List NamedExpr
 pub record IsKeyRest (kind : Kind) (tree : NamedKey) (before after : List Spot) : Type 0 where
   pub key : Key
   pub reads : Reads (key_rest kind) [] (named key.collection ∷ sums_pieces key.components ++ a_sign (closing kind)) before after
-  pub is : IsKey key tree
+  pub is : IsKey key tree.collection tree.components.items
   pub within : key_limits key ≡ []
+
+-- this holds of the kind of collections whose keys are closed by this bracket
+abbrev pub ClosedBy : Symbol → (Kind → Type 0) → Type 0
+ClosedBy close Holds = (kind : Kind) → close ≡ closing kind → Holds kind

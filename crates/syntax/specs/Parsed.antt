@@ -8,7 +8,7 @@ use Rattle.syntax.specs.declared.token.Symbol.{Symbol}
 use Rattle.syntax.specs.declared.token.Word.{Word}
 use Rattle.syntax.specs.Tokens.{Lexeme, symbol, word, Spot, spots_of}
 use Rattle.syntax.specs.Grammar.{Position, Named}
-use Rattle.syntax.specs.Spelled.{Piece, plain, IsPiece}
+use Rattle.syntax.specs.Spelled.{Piece, plain, named, IsPiece}
 use Rattle.syntax.specs.Expected.{Expected, Verdict, syntax, too_large, run, look, look_if, look_if_word}
 
 -- the tokens that are left
@@ -31,6 +31,14 @@ Goes expected more before after = (behind : List Expected) → run (expected ++ 
 pub record Reads (expected more : List Expected) (pieces : List Piece) (before after : List Spot) : Type 0 where
   pub spells : Spells pieces before after
   pub goes : Goes expected more before after
+
+-- this token was taken where it is expected
+abbrev pub ReadsToken : Expected → Lexeme → List Spot → List Spot → Type 0
+ReadsToken expected lexeme = Reads (expected ∷ []) [] (plain lexeme ∷ [])
+
+-- this name was taken where one is expected
+abbrev pub ReadsName : Expected → Name → List Spot → List Spot → Type 0
+ReadsName expected name = Reads (expected ∷ []) [] (named (named_of name) ∷ [])
 
 -- the verdict that fits this stop of the parser, with these tokens left; any verdict fits `NoMemory`
 abbrev pub Tells : Stop → List Spot → Verdict → Type 0

@@ -1,6 +1,7 @@
 -- An expression while it is read: what the parser keeps of it, the pieces read so far, and the limits passed so far.
-use Rattle.std.specs.Prelude.{◌≡◌, ◌⊎◌, ◌<◌, ◌≤◌, ⊤, ℕ, Bool, true, false, List, [], ◌∷◌, ◌++◌, length, reverse, Option, Some, None}
-use Rattle.steptree.specs.declared.step.NamedExpression.{NamedExpression}
+use Rattle.std.specs.Prelude.{◌≡◌, ◌≢◌, ◌⊎◌, ◌<◌, ◌≤◌, ⊤, ℕ, Bool, true, false, List, [], ◌∷◌, ◌++◌, length, reverse, Option, Some, None}
+use Rattle.steptree.specs.declared.expression.Operator.{Operator}
+use Rattle.steptree.specs.Tree.{NamedExpression}
 use Rattle.syntax.specs.declared.limits.TheConstants.{MOST_DEPTH, MOST_BRACKETS}
 use Rattle.syntax.specs.declared.operand.Operand.{Operand}
 use Rattle.syntax.specs.declared.operand.Operand.TheVariants.{Kept, TooDeep}
@@ -9,15 +10,17 @@ use Rattle.syntax.specs.declared.partial.Level.{Level as Kept_level}
 use Rattle.syntax.specs.declared.partial.Partial.{Partial}
 use Rattle.syntax.specs.declared.partial.After.{After}
 use Rattle.syntax.specs.declared.partial.After.TheVariants.{AwaitsOperand, HasProduct, Whole}
+use Rattle.syntax.specs.declared.stop.Stop.{Stop}
 use Rattle.syntax.specs.declared.token.Symbol.TheVariants as sign
 use Rattle.syntax.specs.Tokens.{Spot}
-use Rattle.syntax.specs.Grammar.{Position, Expr, Sum, Addition, Prod, Multiplication, Unary}
+use Rattle.syntax.specs.Grammar.{Position, Expr, Comparison, compared, Sum, Addition, added, Prod, Multiplication, multiplied, Unary, bracketed}
 use Rattle.syntax.specs.Limits.{expr_depth, sum_depth, prod_depth, unary_depth, sum_within, prod_within, one_more}
 use Rattle.syntax.specs.Spelled.{Piece, a_sign, sign_at, sum_pieces, prod_pieces, comparison_sign, addition_sign, multiplication_sign}
 use Rattle.syntax.specs.Tree.{IsExpr, IsSum, IsProd, IsUnary, AreAll, comparison_operator, addition_operator, multiplication_operator}
-use Rattle.syntax.specs.Expected.{Comparing, never, possible, behind_left, Level, Expression, Expected, operand, behind_operand, level_expr, look, finished}
+use Rattle.syntax.specs.Expected.{Comparing, never, possible, behind_left, Level, Expression, Expected, operand, behind_operand, negated_by, product_of, sum_of, compared_of, level_expr, look, finished, Verdict}
+use Rattle.syntax.specs.Expected.{without_product, product_behind, closed}
 use Rattle.syntax.specs.Front.{front_of}
-use Rattle.syntax.specs.Parsed.{Spells, Goes}
+use Rattle.syntax.specs.Parsed.{Spells, Goes, BreaksOff, Tells, Stops}
 
 -- ---- operands
 
@@ -42,6 +45,27 @@ HoldsUnary unary = Holds (IsUnary unary) (unary_depth unary)
 abbrev pub Counts : ℕ → ℕ → Type 0
 Counts many counted = (counted ≡ many) ⊎ ((MOST_DEPTH < counted) × (MOST_DEPTH < many))
 
+-- `new` holds what `old` holds, with this many minus signs before it
+abbrev pub Negates : ℕ → Operand → Operand → Type 0
+Negates times old new = (positions : List Position) (unary : Unary) → Counts (length positions) times → HoldsUnary unary old → HoldsUnary (negated_by positions unary) new
+
+-- the same of trees
+abbrev pub NegatesTree : ℕ → NamedExpression → NamedExpression → Type 0
+NegatesTree times old new = (positions : List Position) (unary : Unary) → length positions ≡ times → IsUnary unary old → IsUnary (negated_by positions unary) new
+
+-- `new` holds the product, the sum or the comparison of the operand that waits and of `right`
+abbrev pub MakesProduct : Pending → Operand → Operand → Type 0
+MakesProduct pending right new = (left : Prod) (how : Multiplication) (unary : Unary) → pending.operator ≡ multiplication_operator how
+    → HoldsProd left pending.left → HoldsUnary unary right → HoldsProd (multiplied left how unary) new
+
+abbrev pub MakesSum : Pending → Operand → Operand → Type 0
+MakesSum pending right new = (left : Sum) (how : Addition) (prod : Prod) → pending.operator ≡ addition_operator how
+    → HoldsSum left pending.left → HoldsProd prod right → HoldsSum (added left how prod) new
+
+abbrev pub MakesComparison : Pending → Operand → Operand → Type 0
+MakesComparison pending right new = (left : Sum) (how : Comparison) (sum : Sum) → pending.operator ≡ comparison_operator how
+    → HoldsSum left pending.left → HoldsSum sum right → HoldsExpr (compared left how sum) new
+
 -- ---- levels
 
 abbrev pub WaitsInSum : Option (Sum × Addition) → Option Pending → Type 0
@@ -60,6 +84,16 @@ WaitsInComparison possible None = ⊤
 WaitsInComparison (behind_left left how) (Some pending) = (pending.operator ≡ comparison_operator how) × HoldsSum left pending.left
 WaitsInComparison waits pending = ⊥
 
+-- the same if an operand may wait or not; if none does, `new` holds what `right` holds
+abbrev pub JoinsProduct : Option Pending → Operand → Operand → Type 0
+JoinsProduct waiting right new = (waits : Option (Prod × Multiplication)) (unary : Unary) → WaitsInProduct waits waiting → HoldsUnary unary right → HoldsProd (product_of waits unary) new
+
+abbrev pub JoinsSum : Option Pending → Operand → Operand → Type 0
+JoinsSum waiting right new = (waits : Option (Sum × Addition)) (prod : Prod) → WaitsInSum waits waiting → HoldsProd prod right → HoldsSum (sum_of waits prod) new
+
+abbrev pub JoinsComparison : Option Pending → Operand → Operand → Type 0
+JoinsComparison waiting right new = (comparing : Comparing) (sum : Sum) → WaitsInComparison comparing waiting → HoldsSum sum right → HoldsExpr (compared_of comparing sum) new
+
 -- whether a comparison may come
 abbrev pub comparison_may_come : Comparing → Bool
 comparison_may_come never = false
@@ -72,12 +106,20 @@ IsFresh never = ⊤
 IsFresh possible = ⊤
 IsFresh (behind_left left how) = ⊥
 
+-- this holds of each way to compare in which a comparison may come, or may not, and no left operand of one waits
+abbrev pub WhereFresh : Bool → (Comparing → Type 0) → Type 0
+WhereFresh may_compare Holds = (comparing : Comparing) → may_compare ≡ comparison_may_come comparing → IsFresh comparing → Holds comparing
+
 pub record IsLevel (level : Level) (kept : Kept_level) : Type 0 where
   pub may_compare : kept.may_compare ≡ comparison_may_come level.comparing
   pub comparison : WaitsInComparison level.comparing kept.comparison
   pub sum : WaitsInSum level.sum kept.sum
   pub product : WaitsInProduct level.product kept.product
   pub negations : Counts (length level.negations) kept.negations
+
+-- `product` ends a level, and this is its expression
+abbrev pub EndsLevel : Kept_level → Operand → Operand → Type 0
+EndsLevel kept product expression = (level : Level) (prod : Prod) → IsLevel level kept → HoldsProd prod product → HoldsExpr (level_expr level prod) expression
 
 -- `kept` is what the parser keeps of `state`
 pub record IsPartial (state : Expression) (kept : Partial) : Type 0 where
@@ -211,3 +253,50 @@ pub record IsAround (state : Expression) (kept : Partial) (level : Level) (outer
   pub inner : IsLevel state.level kept.level
   pub outside : IsLevel level around
   pub others : AreAll (λ (one : Level × Position). IsLevel one.0) outer (reverse kept.outer.items)
+
+-- ---- what the parser makes of what it keeps, whichever expression that is of
+
+-- of that expression, `old` was kept; of what it becomes, `new` is kept
+abbrev pub Becomes : (Expression → Expression) → Partial → Partial → Type 0
+Becomes next old new = (state : Expression) → IsPartial state old → IsPartial (next state) new
+
+-- an operand ends, and this is the product so far
+abbrev pub EndsOperand : Partial → Operand → Partial → Operand → Type 0
+EndsOperand old last new product = (state : Expression) (unary : Unary) → IsPartial state old → HoldsUnary unary last
+    → IsPartial (without_product state) new × HoldsProd (product_behind state unary) product
+
+-- after a product and an operator, the expression awaits the right operand
+abbrev pub Awaits : {H : Type 0} → (H → Operator) → (Expression → Prod → H → Expression) → Operator → Partial → Operand → Partial → Type 0
+Awaits {H} operator_of awaiting operator old product new = (state : Expression) (prod : Prod) (how : H) → IsPartial state old → HoldsProd prod product → operator ≡ operator_of how
+    → IsPartial (awaiting state prod how) new
+
+-- a product ends the innermost level, whose bracket is closed; this is the product so far of the level around it
+abbrev pub ClosesBracket : Partial → Kept_level → Operand → Partial → Operand → Type 0
+ClosesBracket old around product new outside = (state : Expression) (prod : Prod) (level : Level) (place : Position) (outer : List (Level × Position)) → IsAround state old level outer around → HoldsProd prod product
+    → IsPartial (without_product (closed state level outer)) new × HoldsProd (product_behind (closed state level outer) (bracketed place (level_expr state.level prod))) outside
+
+-- a product ends the expression
+abbrev pub EndsExpression : Partial → Operand → Partial → Operand → Type 0
+EndsExpression old product new expression = (state : Expression) (prod : Prod) → IsPartial state old → HoldsProd prod product → EndsAs state prod expression new
+
+-- a token of an operand was taken, or the parser stops at it
+abbrev pub TakesOperand : Partial → Partial → List Spot → List Spot → Option Operand → Type 0
+TakesOperand old new before after product = (state : Expression) → IsPartial state old → Follows (operand state) before after product new
+
+abbrev pub StopsAtOperand : Partial → List Spot → List Spot → Stop → Type 0
+StopsAtOperand old before after stop = (state : Expression) → IsPartial state old → Stops (operand state ∷ []) before after stop
+
+-- after an operand, a token was taken unless the expression is whole, or the parser stops at it
+abbrev pub TakesJoint : Partial → Operand → Partial → List Spot → List Spot → After → Type 0
+TakesJoint old product new before after how = (state : Expression) (prod : Prod) → IsPartial state old → IsBehind state → HoldsProd prod product → GoesOn state prod before after how new
+
+abbrev pub StopsAtJoint : Partial → List Spot → List Spot → Stop → Type 0
+StopsAtJoint old before after stop = (state : Expression) (prod : Prod) → IsPartial state old → Stops (behind_operand state prod ∷ []) before after stop
+
+-- the stop tells the verdict where the expression breaks off
+abbrev pub TellsBreak : Partial → Stop → Type 0
+TellsBreak kept stop = (state : Expression) (rest : List Spot) (verdict : Verdict) → IsPartial state kept → BreaksOff state.passed rest verdict → Tells stop rest verdict
+
+-- the stop tells the verdict where the expression ends within a bracket, and so breaks off
+abbrev pub TellsOpenBracket : Partial → Stop → Type 0
+TellsOpenBracket kept stop = (state : Expression) (rest : List Spot) (verdict : Verdict) → IsPartial state kept → (state.outer ≢ [] → BreaksOff state.passed rest verdict) → Tells stop rest verdict

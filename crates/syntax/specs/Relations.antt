@@ -7,9 +7,9 @@ use Rattle.syntax.specs.declared.token.Symbol.{Symbol}
 use Rattle.syntax.specs.declared.token.Symbol.TheVariants as sign
 use Rattle.syntax.specs.declared.tree.Relation.{Relation as Related}
 use Rattle.syntax.specs.Tokens.{Spot}
-use Rattle.syntax.specs.Grammar.{Position, Relation}
-use Rattle.syntax.specs.Limits.{relation_limits}
-use Rattle.syntax.specs.Spelled.{Piece, bracketed_name, angled_name, relation_pieces}
+use Rattle.syntax.specs.Grammar.{Position, Named, Relation}
+use Rattle.syntax.specs.Limits.{name_limits, relation_limits}
+use Rattle.syntax.specs.Spelled.{Piece, named, a_sign, sign_at, item_at, bracketed_name, angled_name, environment_at, relation_pieces}
 use Rattle.syntax.specs.Tree.{IsRelation}
 use Rattle.syntax.specs.Expected.{Expected, exactly, a_name, reader, related, relations, steps}
 use Rattle.syntax.specs.Parsed.{Reads, named_of}
@@ -46,6 +46,45 @@ pub record IsRelationRest (expected more : List Expected) (front : List Piece) (
   pub reads : Reads expected more rest before after
   pub is : IsRelation relation tree
   pub within : relation_limits relation ≡ limits
+
+-- ---- the parts of a relation, each up to its end
+
+-- a name, its closing bracket and a semicolon
+abbrev pub ReadsLastName : Symbol → Name → List Spot → List Spot → Type 0
+ReadsLastName close name = Reads (last_name_rest close) [] (named (named_of name) ∷ a_sign close ++ a_sign sign.Semicolon)
+
+-- an arrow, what is put, and a semicolon
+abbrev pub ReadsTarget : Target → List Spot → List Spot → Type 0
+ReadsTarget it = Reads target_rest [] (a_sign sign.Arrow ++ target_pieces it ++ a_sign sign.Semicolon)
+
+-- what reads an item, after the item, whose bracket is at this place; and what a tag prescribes, after the tag
+abbrev pub ReadsBehindItem : Position → Named → Related → List Spot → List Spot → Type 0
+ReadsBehindItem place name = IsRelationRest reader_rest [] (item_at place name) (name_limits name)
+
+abbrev pub ReadsBehindTag : Named → Related → List Spot → List Spot → Type 0
+ReadsBehindTag name = IsRelationRest prescribed_step [] (angled_name name) (name_limits name)
+
+-- a relation that begins with an item, with a tag, with a step or with `env`, after its first token
+abbrev pub item_relation_rest : List Expected
+item_relation_rest = a_name ∷ exactly sign.CloseBracket ∷ reader_rest
+
+abbrev pub tag_relation_rest : List Expected
+tag_relation_rest = a_name ∷ exactly sign.Greater ∷ prescribed_step
+
+abbrev pub step_relation_rest : List Expected
+step_relation_rest = a_name ∷ exactly sign.CloseRound ∷ target_rest
+
+abbrev pub ReadsItemRelation : Position → Related → List Spot → List Spot → Type 0
+ReadsItemRelation place = IsRelationRest item_relation_rest [] (sign_at place sign.OpenBracket) []
+
+abbrev pub ReadsTagRelation : Related → List Spot → List Spot → Type 0
+ReadsTagRelation = IsRelationRest tag_relation_rest [] (a_sign sign.Less) []
+
+abbrev pub ReadsStepRelation : Position → Related → List Spot → List Spot → Type 0
+ReadsStepRelation place = IsRelationRest step_relation_rest [] (sign_at place sign.OpenRound) []
+
+abbrev pub ReadsEnvironmentRelation : Position → Related → List Spot → List Spot → Type 0
+ReadsEnvironmentRelation place = IsRelationRest target_rest [] (environment_at place) []
 
 -- a relation from its first token on; if none begins here, steps may come
 abbrev pub IsRelationOrNone : Option Related → List Spot → List Spot → Type 0

@@ -1,9 +1,7 @@
 -- Blocks that are read, statement by statement.
-use Rattle.std.specs.Prelude.{◌≡◌, ℕ, suc, List, [], ◌∷◌, ◌++◌, Option, Some, None}
+use Rattle.std.specs.Prelude.{◌≡◌, ℕ, suc, List, [], ◌∷◌, ◌++◌, Option, Some, None, MatchOption}
 use Rattle.std.specs.List.{flat_map}
-use Rattle.steptree.specs.declared.step.NamedExpression.{NamedExpression}
-use Rattle.steptree.specs.declared.step.NamedBlock.{NamedBlock}
-use Rattle.steptree.specs.declared.step.NamedBlock.TheVariants.{End}
+use Rattle.steptree.specs.Tree.{NamedExpression, NamedBlock, End, with_rest}
 use Rattle.syntax.specs.declared.limits.TheConstants.{MOST_BRACES}
 use Rattle.syntax.specs.declared.part.Part.{Part as Told}
 use Rattle.syntax.specs.declared.part.Part.TheVariants as told
@@ -18,7 +16,7 @@ use Rattle.syntax.specs.Limits.{one_more, expr_limits, statement_limits, stateme
 use Rattle.syntax.specs.Spelled.{Piece, a_sign, a_word, sign_at, in_braces_at, expr_pieces, statement_pieces, statements_pieces, get_pieces, put_pieces}
 use Rattle.syntax.specs.Tree.{IsExpr, IsStatement, AreStatements, IsGet, IsPut, AreAll}
 use Rattle.syntax.specs.Expected.{Part, reading, writing, Expected, exactly, keyword, a_name, whole, possible, statements, nested_brace, nested, or_else, put_target, get_rest, left_out, look_statement}
-use Rattle.syntax.specs.Blocks.{with_rest, assignment_rest}
+use Rattle.syntax.specs.Blocks.{assignment_rest}
 use Rattle.syntax.specs.Parsed.{Goes, Reads}
 
 -- ---- the parts of a step
@@ -70,9 +68,13 @@ Begins part lexeme beginning.Repetition = lexeme ≡ word kept.For
 Begins part lexeme beginning.Own = lexeme ≡ word (own_word part)
 Begins part lexeme beginning.Other = (around : ℕ) (place : Position) → look_statement part around lexeme place ≡ left_out
 
+-- what a condition is: an expression in brackets
+abbrev pub condition_expected : List Expected
+condition_expected = exactly sign.OpenRound ∷ whole possible ∷ exactly sign.CloseRound ∷ []
+
 -- what a choice is: its word, a condition, a block, and one more block if there is an `else`
 abbrev pub choice_expected : Part → ℕ → List Expected
-choice_expected part around = keyword kept.If ∷ exactly sign.OpenRound ∷ whole possible ∷ exactly sign.CloseRound ∷ nested part around ++ or_else part around ∷ []
+choice_expected part around = keyword kept.If ∷ condition_expected ++ nested part around ++ or_else part around ∷ []
 
 -- what a repetition is: its word, a variable, two bounds and a block
 abbrev pub repetition_expected : Part → ℕ → List Expected
@@ -97,17 +99,35 @@ pub record IsStatementRead (part : Part) (around : ℕ) (expected more : List Ex
   pub is : IsFirst part statement tree
   pub within : statement_limits (own_limits part) around statement ≡ []
 
+-- an assignment, which each part has, a statement that only this part has, a choice and a repetition
+abbrev pub IsAssignmentRead : NamedBlock → List Spot → List Spot → Type 0
+IsAssignmentRead tree before after = (part : Part) (around : ℕ) → IsStatementRead part around assignment_expected [] tree before after
+
+abbrev pub IsOwnRead : Part → NamedBlock → List Spot → List Spot → Type 0
+IsOwnRead part tree before after = (around : ℕ) → IsStatementRead part around (own_expected part) [] tree before after
+
+abbrev pub IsChoiceRead : Part → ℕ → NamedBlock → List Spot → List Spot → Type 0
+IsChoiceRead part around = IsStatementRead part around (choice_expected part around) []
+
+abbrev pub IsRepetitionRead : Part → ℕ → NamedBlock → List Spot → List Spot → Type 0
+IsRepetitionRead part around = IsStatementRead part around (repetition_expected part around) []
+
 -- no statement begins here
 pub record NoneBegins (part : Part) (around : ℕ) (before after : List Spot) : Type 0 where
   pub same : after ≡ before
   pub goes : Goes (statements part around ∷ []) [] before after
+
+-- one statement of a block, if one begins here
+abbrev pub IsStatementOrNone : Part → ℕ → Option NamedBlock → List Spot → List Spot → Type 0
+IsStatementOrNone part around found before after = MatchOption found (NoneBegins part around before after)
+    (λ tree. IsStatementRead part around (statements part around ∷ []) (statements part around ∷ []) tree before after)
 
 -- ---- parts of a statement
 
 -- an expression in brackets
 pub record IsConditionRead (tree : NamedExpression) (before after : List Spot) : Type 0 where
   pub expr : Expr
-  pub reads : Reads (exactly sign.OpenRound ∷ whole possible ∷ exactly sign.CloseRound ∷ []) [] (a_sign sign.OpenRound ++ expr_pieces expr ++ a_sign sign.CloseRound) before after
+  pub reads : Reads condition_expected [] (a_sign sign.OpenRound ++ expr_pieces expr ++ a_sign sign.CloseRound) before after
   pub is : IsExpr expr tree
   pub within : expr_limits expr ≡ []
 
@@ -155,11 +175,6 @@ pub record IsSecondRead (part : Part) (around : ℕ) (tree : NamedBlock) (before
   pub within : second_limits part around second ≡ []
 
 -- ---- all statements of a block
-
--- the first statements of these blocks, one after another, and then a block
-abbrev pub joined : List NamedBlock → NamedBlock → NamedBlock
-joined [] block = block
-joined (first ∷ others) block = with_rest first (joined others block)
 
 -- these statements, one after another
 abbrev pub statements_of : {B : Type 0} → List (Statement B) → Statements B

@@ -60,6 +60,13 @@ pub record IsListRead (most : ℕ) (close : Symbol) (them : List Name) (before a
   pub are : AreAll IsName (all_names (Some names)) them
   pub within : flat_map name_limits (all_names (Some names)) ≡ []
 
+-- the same of whichever such list may come; or the parser stops in it
+abbrev pub AreListed : ℕ → Symbol → List Name → List Spot → List Spot → Type 0
+AreListed most close them before after = (list : NameList most close) → IsListRead most close them before after list
+
+abbrev pub StopsInList : ℕ → Symbol → List Spot → List Spot → Stop → Type 0
+StopsInList most close before after stop = (list : NameList most close) → Stops (list.name_at 0 ∷ []) before after stop
+
 -- whether a step has no parameters, and the bracket after them is taken; if not, a name may come
 abbrev pub NoParameters : Bool → List Spot → List Spot → Type 0
 NoParameters true before after = Reads (parameters ∷ []) (exactly sign.OpenBrace ∷ variables 0 ∷ []) (a_sign sign.CloseRound) before after

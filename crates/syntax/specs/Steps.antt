@@ -2,7 +2,7 @@
 use Rattle.std.specs.Prelude.{◌≡◌, ℕ, List, [], ◌∷◌, ◌++◌, drop, length}
 use Rattle.std.specs.List.{flat_map}
 use Rattle.steptree.specs.declared.sheet.TheConstants.{MOST_COLLECTIONS}
-use Rattle.steptree.specs.declared.step.NamedBlock.{NamedBlock}
+use Rattle.steptree.specs.Tree.{NamedBlock}
 use Rattle.steptree.specs.declared.step.Step.{Step}
 use Rattle.syntax.specs.declared.token.Symbol.TheVariants as sign
 use Rattle.syntax.specs.Tokens.{Spot}

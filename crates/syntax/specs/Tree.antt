@@ -3,21 +3,15 @@ use Rattle.std.specs.Prelude.{◌≡◌, ⊤, pos, List, [], ◌∷◌, length}
 use Rattle.steptree.specs.declared.expression.Operator.{Operator}
 use Rattle.steptree.specs.declared.expression.Operator.TheVariants as operator
 use Rattle.steptree.specs.declared.step.Name.{Name}
-use Rattle.steptree.specs.declared.step.NamedExpression.{NamedExpression}
-use Rattle.steptree.specs.declared.step.NamedExpression.TheVariants.{Number, Variable, Negation', Operation'}
-use Rattle.steptree.specs.declared.step.NamedKey.{NamedKey}
-use Rattle.steptree.specs.declared.step.NamedBlock.{NamedBlock}
-use Rattle.steptree.specs.declared.step.NamedBlock.TheVariants as block
+use Rattle.steptree.specs.Tree.{NamedExpression, Number, Variable, Negation, Operation, NamedBlock}
+use Rattle.steptree.specs.Tree as block
 use Rattle.steptree.specs.declared.step.Step.{Step}
 use Rattle.syntax.specs.declared.tree.Declaration.{Declaration as Declared}
 use Rattle.syntax.specs.declared.tree.Declaration.TheVariants as declared
 use Rattle.syntax.specs.declared.tree.Relation.{Relation as Related}
 use Rattle.syntax.specs.declared.tree.Relation.TheVariants as related
 use Rattle.syntax.specs.declared.tree.Tree.{Tree}
-use Rattle.syntax.specs.Grammar.{Named, Comparison, equal, not_equal, less, less_or_equal, greater, greater_or_equal, Addition, plus, minus, Multiplication, times, over, modulo}
-use Rattle.syntax.specs.Grammar.{Expr, sum_alone, compared, Sum, prod_alone, added, Prod, unary_alone, multiplied, Unary, negated, literal, variable, bracketed, Sums, no_sums, sums, Key}
-use Rattle.syntax.specs.Grammar.{Statement, own, assigned, if_alone, if_else, for, Statements, no_more, and_then, Get, Put, put_item, put_tag}
-use Rattle.syntax.specs.Grammar.{Declaration, item_declared, tag_declared, Relation, prescribes, reads, puts_item, puts_tag, environment_puts_item, environment_puts_tag, environment_gets, StepText, GraphText}
+use Rattle.syntax.specs.Grammar.{Named, Comparison, equal, not_equal, less, less_or_equal, greater, greater_or_equal, Addition, plus, minus, Multiplication, times, over, modulo, Expr, sum_alone, compared, Sum, prod_alone, added, Prod, unary_alone, multiplied, Unary, negated, literal, variable, bracketed, Sums, no_sums, sums, Key, Statement, own, assigned, if_alone, if_else, for, Statements, no_more, and_then, Get, Put, put_item, put_tag, Declaration, item_declared, tag_declared, Relation, prescribes, reads, puts_item, puts_tag, environment_puts_item, environment_puts_tag, environment_gets, StepText, GraphText}
 use Rattle.syntax.specs.Limits.{all_names}
 
 abbrev pub IsName : Named → Name → Type 0
@@ -51,21 +45,21 @@ multiplication_operator modulo = operator.Remainder
 abbrev mutual
   pub IsExpr : Expr → NamedExpression → Type 0
   IsExpr (sum_alone sum) expression = IsSum sum expression
-  IsExpr (compared left how right) (Operation' between _ one two) = (between ≡ comparison_operator how) × IsSum left one × IsSum right two
+  IsExpr (compared left how right) (Operation between one two) = (between ≡ comparison_operator how) × IsSum left one × IsSum right two
   IsExpr (compared left how right) expression = ⊥
 
   pub IsSum : Sum → NamedExpression → Type 0
   IsSum (prod_alone prod) expression = IsProd prod expression
-  IsSum (added left how right) (Operation' between _ one two) = (between ≡ addition_operator how) × IsSum left one × IsProd right two
+  IsSum (added left how right) (Operation between one two) = (between ≡ addition_operator how) × IsSum left one × IsProd right two
   IsSum (added left how right) expression = ⊥
 
   pub IsProd : Prod → NamedExpression → Type 0
   IsProd (unary_alone unary) expression = IsUnary unary expression
-  IsProd (multiplied left how right) (Operation' between _ one two) = (between ≡ multiplication_operator how) × IsProd left one × IsUnary right two
+  IsProd (multiplied left how right) (Operation between one two) = (between ≡ multiplication_operator how) × IsProd left one × IsUnary right two
   IsProd (multiplied left how right) expression = ⊥
 
   pub IsUnary : Unary → NamedExpression → Type 0
-  IsUnary (negated position unary) (Negation' _ operand) = IsUnary unary operand
+  IsUnary (negated position unary) (Negation operand) = IsUnary unary operand
   IsUnary (literal position value) (Number it) = it ≡ pos value
   IsUnary (variable it) (Variable other) = IsName it other
   IsUnary (bracketed position expr) expression = IsExpr expr expression
@@ -75,8 +69,8 @@ abbrev pub AreSums : Sums → List NamedExpression → Type 0
 AreSums no_sums expressions = expressions ≡ []
 AreSums (sums first more) expressions = AreAll IsSum (first ∷ more) expressions
 
-abbrev pub IsKey : Key → NamedKey → Type 0
-IsKey key other = IsName key.collection other.collection × AreSums key.components other.components.items
+abbrev pub IsKey : Key → Name → List NamedExpression → Type 0
+IsKey key name expressions = IsName key.collection name × AreSums key.components expressions
 
 -- ---- statements
 
@@ -85,12 +79,12 @@ module _ {B : Type 0} (IsOwn : B → NamedBlock → (NamedBlock → Type 0) → 
   abbrev mutual
     pub IsStatement : Statement B → NamedBlock → (NamedBlock → Type 0) → Type 0
     IsStatement (own it) other IsRest = IsOwn it other IsRest
-    IsStatement (assigned it expr) (block.Assign' name value _ rest) IsRest = IsName it name × IsExpr expr value × IsRest rest
-    IsStatement (if_alone condition _ first) (block.If' value _ one _ two _ rest) IsRest =
+    IsStatement (assigned it expr) (block.Assign name value rest) IsRest = IsName it name × IsExpr expr value × IsRest rest
+    IsStatement (if_alone condition _ first) (block.If value one two rest) IsRest =
         IsExpr condition value × AreStatements first one × (two ≡ block.End) × IsRest rest
-    IsStatement (if_else condition _ first _ second) (block.If' value _ one _ two _ rest) IsRest =
+    IsStatement (if_else condition _ first _ second) (block.If value one two rest) IsRest =
         IsExpr condition value × AreStatements first one × AreStatements second two × IsRest rest
-    IsStatement (for it from to _ inner) (block.For' name low high _ other _ rest) IsRest =
+    IsStatement (for it from to _ inner) (block.For name low high other rest) IsRest =
         IsName it name × IsExpr from low × IsExpr to high × AreStatements inner other × IsRest rest
     IsStatement statement other IsRest = ⊥
 
@@ -100,12 +94,12 @@ module _ {B : Type 0} (IsOwn : B → NamedBlock → (NamedBlock → Type 0) → 
 
 -- the block begins with this `get`, and its rest satisfies `IsRest`
 abbrev pub IsGet : Get → NamedBlock → (NamedBlock → Type 0) → Type 0
-IsGet get (block.Get' name key _ rest) IsRest = IsName get.variable name × IsKey get.item key × IsRest rest
+IsGet get (block.Get name collection components rest) IsRest = IsName get.variable name × IsKey get.item collection components.items × IsRest rest
 IsGet get other IsRest = ⊥
 
 abbrev pub IsPut : Put → NamedBlock → (NamedBlock → Type 0) → Type 0
-IsPut (put_item item expr) (block.PutItem' key value _ rest) IsRest = IsKey item key × IsExpr expr value × IsRest rest
-IsPut (put_tag tag) (block.PutTag' key _ rest) IsRest = IsKey tag key × IsRest rest
+IsPut (put_item item expr) (block.PutItem collection components value rest) IsRest = IsKey item collection components.items × IsExpr expr value × IsRest rest
+IsPut (put_tag tag) (block.PutTag collection components rest) IsRest = IsKey tag collection components.items × IsRest rest
 IsPut put other IsRest = ⊥
 
 -- ---- graphs

@@ -1,13 +1,10 @@
 //! Blocks: statements one after another, and the blocks inside them.
-ghost use Rattle.std.specs.Prelude.{◌≡◌, ℕ, ◌<◌, ◌≤◌, ◌∷◌, [], length, MatchOption, IfSome, IfOk, IfErr, OnOk};
-ghost use Rattle.steptree.specs.declared.step.NamedBlock.TheVariants.{End};
+ghost use Rattle.std.specs.Prelude.{◌≡◌, ◌<◌, ◌≤◌, ◌∷◌, [], length, IfSome, IfOk, IfErr, OnOk};
 ghost use Rattle.syntax.specs.declared.limits.TheConstants.{MOST_BRACES};
-ghost use Rattle.syntax.specs.declared.token.Symbol.TheVariants as expected_sign;
-ghost use Rattle.syntax.specs.Expected.{Part as PartRead, exactly, whole, possible, statements as some_statements, nested_brace, nested as nested_rest, or_else};
+ghost use Rattle.syntax.specs.Expected.{statements as some_statements, nested_brace, nested as nested_rest, or_else};
 ghost use Rattle.syntax.specs.Parsed.{left, Stops};
-ghost use Rattle.syntax.specs.Blocks.{with_rest};
-ghost use Rattle.syntax.specs.Statements.{part_of, assignment_expected, choice_expected, repetition_expected, own_expected, IsStatementRead, NoneBegins};
-ghost use Rattle.syntax.specs.Statements.{IsConditionRead, IsBraceRead, IsNestedRead, IsSecondRead, joined, AreRead};
+ghost use Rattle.syntax.specs.Statements.{part_of, assignment_expected, condition_expected, choice_expected, repetition_expected, own_expected};
+ghost use Rattle.syntax.specs.Statements.{IsAssignmentRead, IsOwnRead, IsConditionRead, IsBraceRead, IsNestedRead, IsSecondRead, IsChoiceRead, IsRepetitionRead, IsStatementOrNone, AreRead};
 
 use crate::cursor::Cursor;
 use crate::expressions::value;
@@ -16,39 +13,11 @@ use crate::part::{Beginning, Part};
 use crate::stop::Stop;
 use crate::{MOST_BRACES, Symbol, Token, Word};
 use std::alloc::Global;
-use steptree::{NamedBlock, NamedExpression};
-
-// Puts `block` after the first statement of `statement`, in place of what stood there.
-fn put_behind<'a>(statement: &mut NamedBlock<'a>, block: NamedBlock<'a>)
-    ensures { statement.new ≡ with_rest statement.old block.entry }
-{
-    match statement {
-        NamedBlock::End => *statement = block,
-        NamedBlock::Assign { rest, .. } => **rest = block,
-        NamedBlock::If { rest, .. } => **rest = block,
-        NamedBlock::For { rest, .. } => **rest = block,
-        NamedBlock::Get { rest, .. } => **rest = block,
-        NamedBlock::PutItem { rest, .. } => **rest = block,
-        NamedBlock::PutTag { rest, .. } => **rest = block,
-    }
-}
-
-// The first statements of these blocks, one after another.
-#[tactic(auto, using(crate::proofs::Sequence::joined_last))]
-fn join<'a>(mut statements: Vec<NamedBlock<'a>>) -> NamedBlock<'a>
-    ensures { result ≡ joined statements.entry.items End }
-{
-    let mut block = NamedBlock::End;
-    while let Some(mut statement) = statements.pop() {
-        put_behind(&mut statement, block);
-        block = statement;
-    }
-    block
-}
+use steptree::{Block, NamedBlock, NamedExpression, Statement};
 
 // An assignment.
 fn assigned<'a>(alloc: Global, cursor: &mut Cursor<'_, 'a>) -> Result<NamedBlock<'a>, Stop>
-    ensures reads { IfOk result (λ tree. (part : PartRead) (around : ℕ) → IsStatementRead part around assignment_expected [] tree (left cursor.old) (left cursor.new)) }
+    ensures reads { IfOk result (λ tree. IsAssignmentRead tree (left cursor.old) (left cursor.new)) }
     ensures fewer { OnOk result (length (left cursor.new) < length (left cursor.old)) }
     ensures stops { IfErr result (Stops assignment_expected (left cursor.old) (left cursor.new)) }
 {
@@ -58,7 +27,7 @@ fn assigned<'a>(alloc: Global, cursor: &mut Cursor<'_, 'a>) -> Result<NamedBlock
 
 // A statement that only this part has.
 fn own<'a>(alloc: Global, cursor: &mut Cursor<'_, 'a>, part: Part) -> Result<NamedBlock<'a>, Stop>
-    ensures reads { IfOk result (λ tree. (around : ℕ) → IsStatementRead (part_of part) around (own_expected (part_of part)) [] tree (left cursor.old) (left cursor.new)) }
+    ensures reads { IfOk result (λ tree. IsOwnRead (part_of part) tree (left cursor.old) (left cursor.new)) }
     ensures fewer { OnOk result (length (left cursor.new) < length (left cursor.old)) }
     ensures stops { IfErr result (Stops (own_expected (part_of part)) (left cursor.old) (left cursor.new)) }
 {
@@ -78,7 +47,7 @@ fn own<'a>(alloc: Global, cursor: &mut Cursor<'_, 'a>, part: Part) -> Result<Nam
 fn condition<'a>(alloc: Global, cursor: &mut Cursor<'_, 'a>) -> Result<NamedExpression<'a>, Stop>
     ensures reads { IfOk result (λ tree. IsConditionRead tree (left cursor.old) (left cursor.new)) }
     ensures fewer { OnOk result (length (left cursor.new) < length (left cursor.old)) }
-    ensures stops { IfErr result (Stops (exactly expected_sign.OpenRound ∷ whole possible ∷ exactly expected_sign.CloseRound ∷ []) (left cursor.old) (left cursor.new)) }
+    ensures stops { IfErr result (Stops condition_expected (left cursor.old) (left cursor.new)) }
 {
     cursor.sign(Symbol::OpenRound)?;
     let condition = value(alloc, cursor)?;
@@ -137,7 +106,7 @@ fn second<'a>(
     ensures stops { IfErr result (Stops (or_else (part_of part) around ∷ []) (left cursor.old) (left cursor.new)) }
 {
     if !cursor.takes_word(Word::Else) {
-        return Ok(NamedBlock::End);
+        return Ok(Block::end());
     }
     let block = nested(alloc, cursor, part, around)?;
     Ok(block)
@@ -151,7 +120,7 @@ fn choice<'a>(
     part: Part,
     around: usize,
 ) -> Result<NamedBlock<'a>, Stop>
-    ensures reads { IfOk result (λ tree. IsStatementRead (part_of part) around (choice_expected (part_of part) around) [] tree (left cursor.old) (left cursor.new)) }
+    ensures reads { IfOk result (λ tree. IsChoiceRead (part_of part) around tree (left cursor.old) (left cursor.new)) }
     ensures fewer { OnOk result (length (left cursor.new) < length (left cursor.old)) }
     ensures stops { IfErr result (Stops (choice_expected (part_of part) around) (left cursor.old) (left cursor.new)) }
 {
@@ -161,12 +130,14 @@ fn choice<'a>(
     let second = second(alloc, cursor, part, around)?;
     let first = Box::new(alloc, first)?;
     let second = Box::new(alloc, second)?;
-    let rest = Box::new(alloc, NamedBlock::End)?;
-    Ok(NamedBlock::If {
-        condition,
-        first,
-        second,
-        rest,
+    let rest = Box::new(alloc, Block::end())?;
+    Ok(Block {
+        first: Statement::If {
+            condition,
+            first,
+            second,
+            rest,
+        },
     })
 }
 
@@ -178,7 +149,7 @@ fn repetition<'a>(
     part: Part,
     around: usize,
 ) -> Result<NamedBlock<'a>, Stop>
-    ensures reads { IfOk result (λ tree. IsStatementRead (part_of part) around (repetition_expected (part_of part) around) [] tree (left cursor.old) (left cursor.new)) }
+    ensures reads { IfOk result (λ tree. IsRepetitionRead (part_of part) around tree (left cursor.old) (left cursor.new)) }
     ensures fewer { OnOk result (length (left cursor.new) < length (left cursor.old)) }
     ensures stops { IfErr result (Stops (repetition_expected (part_of part) around) (left cursor.old) (left cursor.new)) }
 {
@@ -190,13 +161,15 @@ fn repetition<'a>(
     let to = value(alloc, cursor)?;
     let block = nested(alloc, cursor, part, around)?;
     let block = Box::new(alloc, block)?;
-    let rest = Box::new(alloc, NamedBlock::End)?;
-    Ok(NamedBlock::For {
-        variable,
-        from,
-        to,
-        block,
-        rest,
+    let rest = Box::new(alloc, Block::end())?;
+    Ok(Block {
+        first: Statement::For {
+            variable,
+            from,
+            to,
+            block,
+            rest,
+        },
     })
 }
 
@@ -208,8 +181,7 @@ fn statement<'a>(
     part: Part,
     around: usize,
 ) -> Result<Option<NamedBlock<'a>>, Stop>
-    ensures reads { IfOk result (λ found. MatchOption found (NoneBegins (part_of part) around (left cursor.old) (left cursor.new))
-        (λ tree. IsStatementRead (part_of part) around (some_statements (part_of part) around ∷ []) (some_statements (part_of part) around ∷ []) tree (left cursor.old) (left cursor.new))) }
+    ensures reads { IfOk result (λ found. IsStatementOrNone (part_of part) around found (left cursor.old) (left cursor.new)) }
     ensures fewer { IfOk result (λ found. IfSome found (λ tree. length (left cursor.new) < length (left cursor.old))) }
     ensures stops { IfErr result (Stops (some_statements (part_of part) around ∷ []) (left cursor.old) (left cursor.new)) }
 {
@@ -255,7 +227,7 @@ pub(crate) fn statements<'a>(
                 read.reserve(1)?;
                 read.push_reserved(statement);
             }
-            None => return Ok(join(read)),
+            None => return Ok(Block::join(read)),
         }
     }
 }

@@ -18,10 +18,9 @@ impl<'t, 'a> Cursor<'t, 'a> {
     ghost use Rattle.std.specs.Prelude.{◌∷◌, false, [], ◌≤◌, ◌<◌, ◌==◌, length, map, get_or, IfOk, IfErr, OnOk};
     ghost use Rattle.syntax.specs.Tokens.{spots_of, lexeme_of, word, symbol};
     ghost use Rattle.syntax.specs.Limits.{name_limits};
-    ghost use Rattle.syntax.specs.Spelled.{plain, named};
     ghost use Rattle.syntax.specs.Expected.{exactly, keyword as reserved, a_name};
     ghost use Rattle.syntax.specs.NameLists.{TakesName, StopsAtName};
-    ghost use Rattle.syntax.specs.Parsed.{left, named_of, Reads, Stops, TakenIf, TakenIfWord};
+    ghost use Rattle.syntax.specs.Parsed.{left, named_of, ReadsToken, ReadsName, Stops, TakenIf, TakenIfWord};
     ghost use Rattle.syntax.specs.Front.{front_of, behind_front};
 
     /// A cursor before the first of these tokens, which are those of a text.
@@ -80,7 +79,7 @@ impl<'t, 'a> Cursor<'t, 'a> {
 
     /// Takes this sign.
     pub(crate) fn sign(&mut self, sign: Symbol) -> Result<(), Stop>
-        ensures reads { OnOk result (Reads (exactly sign ∷ []) [] (plain (symbol sign) ∷ []) (left self.old) (left self.new)) }
+        ensures reads { OnOk result (ReadsToken (exactly sign) (symbol sign) (left self.old) (left self.new)) }
         ensures fewer { OnOk result (length (left self.new) < length (left self.old)) }
         ensures stops { IfErr result (Stops (exactly sign ∷ []) (left self.old) (left self.new)) }
     {
@@ -95,7 +94,7 @@ impl<'t, 'a> Cursor<'t, 'a> {
 
     /// Takes this reserved word.
     pub(crate) fn keyword(&mut self, keyword: Word) -> Result<(), Stop>
-        ensures reads { OnOk result (Reads (reserved keyword ∷ []) [] (plain (word keyword) ∷ []) (left self.old) (left self.new)) }
+        ensures reads { OnOk result (ReadsToken (reserved keyword) (word keyword) (left self.old) (left self.new)) }
         ensures fewer { OnOk result (length (left self.new) < length (left self.old)) }
         ensures stops { IfErr result (Stops (reserved keyword ∷ []) (left self.old) (left self.new)) }
     {
@@ -110,7 +109,7 @@ impl<'t, 'a> Cursor<'t, 'a> {
 
     /// Takes a name of at most `MOST_NAME_BYTES` bytes.
     pub(crate) fn name(&mut self) -> Result<Name<'a>, Stop>
-        ensures reads { IfOk result (λ name. Reads (a_name ∷ []) [] (named (named_of name) ∷ []) (left self.old) (left self.new)) }
+        ensures reads { IfOk result (λ name. ReadsName a_name name (left self.old) (left self.new)) }
         ensures within { IfOk result (λ name. name_limits (named_of name) ≡ []) }
         ensures fewer { OnOk result (length (left self.new) < length (left self.old)) }
         ensures stops { IfErr result (Stops (a_name ∷ []) (left self.old) (left self.new)) }

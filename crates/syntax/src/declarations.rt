@@ -1,10 +1,8 @@
 //! Declarations, from the beginning of a text up to the first relation.
-ghost use Rattle.std.specs.Prelude.{◌≡◌, ◌<◌, ◌≤◌, ◌∷◌, [], ℕ, length, IfOk, IfErr, IfSome, OnOk};
-ghost use Rattle.syntax.specs.declared.token.Symbol.TheVariants.{OpenBracket, Less as OpenAngle};
-ghost use Rattle.syntax.specs.Expected.{Kind, item as item_kind, tag as tag_kind, closing, front as behind_bracket, front_named, front_closed, declarations as some_declarations, relations as some_relations};
-ghost use Rattle.syntax.specs.Spelled.{sign_at, a_sign};
+ghost use Rattle.std.specs.Prelude.{◌<◌, ◌≤◌, ◌∷◌, [], length, IfOk, IfErr, IfSome, OnOk};
+ghost use Rattle.syntax.specs.Expected.{item as item_kind, tag as tag_kind, declarations as some_declarations, relations as some_relations};
 ghost use Rattle.syntax.specs.Parsed.{left, Stops};
-ghost use Rattle.syntax.specs.Declarations.{IsFullOf, components_rest, IsComponentsRest, IsEnd, IsBehindName, IsFront, IsFrontOrNone, IsPreamble};
+ghost use Rattle.syntax.specs.Declarations.{components_rest, IsComponentsRest, ReadsEnd, StopsAtEnd, ReadsBehindName, StopsBehindName, ReadsItemFront, ReadsTagFront, StopsAtFront, IsFrontOrNone, IsPreamble};
 
 use crate::cursor::Cursor;
 use crate::name_lists::component_names;
@@ -37,9 +35,9 @@ fn components(cursor: &mut Cursor<'_, '_>, close: Symbol) -> Result<usize, Stop>
 
 // Whether a declaration ends here, after its closing bracket. Its collection is named at `place`.
 fn ends(cursor: &mut Cursor<'_, '_>, place: usize, full: bool) -> Result<bool, Stop>
-    ensures reads { IfOk result (λ ends. (kind : Kind) (items tags : ℕ) → IsFullOf kind items tags full → IsEnd kind items tags place ends (left cursor.old) (left cursor.new)) }
+    ensures reads { IfOk result (λ ends. ReadsEnd place full ends (left cursor.old) (left cursor.new)) }
     ensures fewer { length (left cursor.new) ≤ length (left cursor.old) }
-    ensures stops { IfErr result (λ stop. (kind : Kind) (items tags : ℕ) → IsFullOf kind items tags full → Stops (front_closed kind items tags place ∷ []) (left cursor.old) (left cursor.new) stop) }
+    ensures stops { IfErr result (StopsAtEnd place full (left cursor.old) (left cursor.new)) }
 {
     match cursor.front() {
         Token::Symbol(Symbol::Semicolon) => {
@@ -60,9 +58,9 @@ fn behind_name(
     place: usize,
     full: bool,
 ) -> Result<Option<usize>, Stop>
-    ensures reads { IfOk result (λ count. (kind : Kind) (items tags : ℕ) → close ≡ closing kind → IsFullOf kind items tags full → IsBehindName kind items tags place count (left cursor.old) (left cursor.new)) }
+    ensures reads { IfOk result (λ count. ReadsBehindName close place full count (left cursor.old) (left cursor.new)) }
     ensures fewer { OnOk result (length (left cursor.new) < length (left cursor.old)) }
-    ensures stops { IfErr result (λ stop. (kind : Kind) (items tags : ℕ) → close ≡ closing kind → IsFullOf kind items tags full → Stops (front_named kind items tags place ∷ []) (left cursor.old) (left cursor.new) stop) }
+    ensures stops { IfErr result (StopsBehindName close place full (left cursor.old) (left cursor.new)) }
 {
     match cursor.front() {
         Token::Symbol(Symbol::Colon) => {
@@ -86,9 +84,9 @@ fn behind_name(
 
 // A declared item, or a relation that begins with an item, after the bracket at `place`.
 fn item_front<'a>(cursor: &mut Cursor<'_, 'a>, place: usize, full: bool) -> Result<Front<'a>, Stop>
-    ensures reads { IfOk result (λ front. (items tags : ℕ) → IsFullOf item_kind items tags full → IsFront (behind_bracket item_kind items tags ∷ []) (a_sign OpenBracket) (sign_at place OpenBracket) items tags front (left cursor.old) (left cursor.new)) }
+    ensures reads { IfOk result (λ front. ReadsItemFront place full front (left cursor.old) (left cursor.new)) }
     ensures fewer { OnOk result (length (left cursor.new) < length (left cursor.old)) }
-    ensures stops { IfErr result (λ stop. (items tags : ℕ) → IsFullOf item_kind items tags full → Stops (behind_bracket item_kind items tags ∷ []) (left cursor.old) (left cursor.new) stop) }
+    ensures stops { IfErr result (StopsAtFront item_kind full (left cursor.old) (left cursor.new)) }
 {
     let name = cursor.name()?;
     match behind_name(cursor, Symbol::CloseBracket, name.place, full)? {
@@ -102,9 +100,9 @@ fn item_front<'a>(cursor: &mut Cursor<'_, 'a>, place: usize, full: bool) -> Resu
 
 // A declared tag, or a prescription, after the bracket.
 fn tag_front<'a>(cursor: &mut Cursor<'_, 'a>, full: bool) -> Result<Front<'a>, Stop>
-    ensures reads { IfOk result (λ front. (items tags : ℕ) → IsFullOf tag_kind items tags full → IsFront (behind_bracket tag_kind items tags ∷ []) (a_sign OpenAngle) (a_sign OpenAngle) items tags front (left cursor.old) (left cursor.new)) }
+    ensures reads { IfOk result (λ front. ReadsTagFront full front (left cursor.old) (left cursor.new)) }
     ensures fewer { OnOk result (length (left cursor.new) < length (left cursor.old)) }
-    ensures stops { IfErr result (λ stop. (items tags : ℕ) → IsFullOf tag_kind items tags full → Stops (behind_bracket tag_kind items tags ∷ []) (left cursor.old) (left cursor.new) stop) }
+    ensures stops { IfErr result (StopsAtFront tag_kind full (left cursor.old) (left cursor.new)) }
 {
     let name = cursor.name()?;
     match behind_name(cursor, Symbol::Greater, name.place, full)? {
@@ -147,7 +145,7 @@ pub(crate) fn declarations<'a>(
     alloc: Global,
     cursor: &mut Cursor<'_, 'a>,
 ) -> Result<Preamble<'a>, Stop>
-    ensures reads { IfOk result (λ preamble. IsPreamble (some_relations ∷ []) preamble (left cursor.old) (left cursor.new)) }
+    ensures reads { IfOk result (λ read. IsPreamble (some_relations ∷ []) read (left cursor.old) (left cursor.new)) }
     ensures fewer { OnOk result (length (left cursor.new) ≤ length (left cursor.old)) }
     ensures stops { IfErr result (Stops (some_declarations 0 0 ∷ []) (left cursor.old) (left cursor.new)) }
 {

@@ -1,9 +1,8 @@
 //! Expressions: a loop over their tokens, with a level for each open bracket.
-ghost use Rattle.std.specs.Prelude.{◌≡◌, ◌<◌, ◌∷◌, [], length, IfOk, IfErr, OnOk};
-ghost use Rattle.syntax.specs.Expected.{Comparing, possible, whole};
+ghost use Rattle.std.specs.Prelude.{◌<◌, ◌∷◌, [], length, IfOk, IfErr, OnOk};
+ghost use Rattle.syntax.specs.Expected.{possible, whole};
 ghost use Rattle.syntax.specs.Parsed.{left, Stops};
-ghost use Rattle.syntax.specs.Partial.{IsFresh, comparison_may_come};
-ghost use Rattle.syntax.specs.Whole.{IsExpression};
+ghost use Rattle.syntax.specs.Whole.{IsExpression, ReadsExpression, StopsInExpression};
 
 use crate::cursor::Cursor;
 use crate::partial::{After, Partial};
@@ -20,9 +19,9 @@ pub(crate) fn expression<'a>(
     cursor: &mut Cursor<'_, 'a>,
     may_compare: bool,
 ) -> Result<NamedExpression<'a>, Stop>
-    ensures reads { IfOk result (λ tree. (comparing : Comparing) → may_compare ≡ comparison_may_come comparing → IsFresh comparing → IsExpression comparing tree (left cursor.old) (left cursor.new)) }
+    ensures reads { IfOk result (λ tree. ReadsExpression may_compare tree (left cursor.old) (left cursor.new)) }
     ensures fewer { OnOk result (length (left cursor.new) < length (left cursor.old)) }
-    ensures stops { IfErr result (λ stop. (comparing : Comparing) → may_compare ≡ comparison_may_come comparing → IsFresh comparing → Stops (whole comparing ∷ []) (left cursor.old) (left cursor.new) stop) }
+    ensures stops { IfErr result (StopsInExpression may_compare (left cursor.old) (left cursor.new)) }
 {
     let mut partial = Partial::begun(alloc, may_compare, cursor.place());
     let mut product = None;

@@ -1,15 +1,22 @@
 //! Keys of items and tags.
-ghost use Rattle.std.specs.Prelude.{◌≡◌, ◌<◌, ◌≤◌, ◌∷◌, [], length, IfOk, IfErr, OnOk};
-ghost use Rattle.syntax.specs.Expected.{Kind, components as some_components, closing, item as item_kind, tag as tag_kind, key_rest};
+ghost use Rattle.std.specs.Prelude.{◌<◌, ◌≤◌, ◌∷◌, [], length, IfOk, IfErr, OnOk};
+ghost use Rattle.syntax.specs.Expected.{components as some_components, item as item_kind, tag as tag_kind, key_rest};
 ghost use Rattle.syntax.specs.Parsed.{left, Stops};
-ghost use Rattle.syntax.specs.Keys.{AreComponents, IsKeyRest};
+ghost use Rattle.syntax.specs.Keys.{AreComponents, IsKeyRest, ClosedBy};
 
 use crate::Symbol;
 use crate::cursor::Cursor;
 use crate::expressions::expression;
 use crate::stop::Stop;
 use std::alloc::Global;
-use steptree::{NamedExpression, NamedKey};
+use steptree::{Name, NamedExpression};
+
+/// An item or a tag with names: its collection, and the expressions of its components.
+#[derive(Drop)]
+pub(crate) struct NamedKey<'a> {
+    pub(crate) collection: Name<'a>,
+    pub(crate) components: Vec<NamedExpression<'a>>,
+}
 
 // The components after the name of a key: none, or a colon and at least one.
 fn components<'a>(
@@ -36,9 +43,9 @@ fn components<'a>(
 
 // A key after its opening bracket, with the closing bracket `close`.
 fn key<'a>(alloc: Global, cursor: &mut Cursor<'_, 'a>, close: Symbol) -> Result<NamedKey<'a>, Stop>
-    ensures reads { IfOk result (λ key. (kind : Kind) → close ≡ closing kind → IsKeyRest kind key (left cursor.old) (left cursor.new)) }
+    ensures reads { IfOk result (λ key. ClosedBy close (λ kind. IsKeyRest kind key (left cursor.old) (left cursor.new))) }
     ensures fewer { OnOk result (length (left cursor.new) < length (left cursor.old)) }
-    ensures stops { IfErr result (λ stop. (kind : Kind) → close ≡ closing kind → Stops (key_rest kind) (left cursor.old) (left cursor.new) stop) }
+    ensures stops { IfErr result (λ stop. ClosedBy close (λ kind. Stops (key_rest kind) (left cursor.old) (left cursor.new) stop)) }
 {
     let collection = cursor.name()?;
     let components = components(alloc, cursor)?;

@@ -1,14 +1,11 @@
 //! Operands of expressions, and what operators make of them.
-ghost use Rattle.std.specs.Prelude.{◌≡◌, List, length, Option, MatchOption, IfOk};
+ghost use Rattle.std.specs.Prelude.{◌≡◌, MatchOption, IfOk};
 ghost use Rattle.syntax.specs.declared.operand.Operand.TheVariants.{Kept, TooDeep};
-ghost use Rattle.syntax.specs.Grammar.{Position, Sum, Prod, Unary, Multiplication, multiplied, Addition, added, Comparison, compared};
-ghost use Rattle.syntax.specs.Tree.{IsUnary, multiplication_operator, addition_operator, comparison_operator};
-ghost use Rattle.syntax.specs.Expected.{Comparing, negated_by, product_of, sum_of, compared_of};
-ghost use Rattle.syntax.specs.Partial.{HoldsExpr, HoldsSum, HoldsProd, HoldsUnary, Counts, WaitsInProduct, WaitsInSum, WaitsInComparison};
+ghost use Rattle.syntax.specs.Partial.{Negates, NegatesTree, MakesProduct, MakesSum, MakesComparison, JoinsProduct, JoinsSum, JoinsComparison};
 
 use crate::MOST_DEPTH;
 use std::alloc::{AllocError, Global};
-use steptree::{NamedExpression, Operator};
+use steptree::{Expression, NamedExpression, Node, Operator};
 
 /// An operand: its tree and its depth, or that it is too deep.
 pub(crate) enum Operand<'a> {
@@ -48,7 +45,7 @@ impl<'a> Drop for Pending<'a> {
 impl<'a> Operand<'a> {
     /// This operand with `times` minus signs before it.
     pub(crate) fn negated(self, alloc: Global, times: usize) -> Result<Operand<'a>, AllocError>
-        ensures { IfOk result (λ new. (positions : List Position) (unary : Unary) → Counts (length positions) times → HoldsUnary unary self.entry → HoldsUnary (negated_by positions unary) new) }
+        ensures { IfOk result (Negates times self.entry) }
     {
         match self {
             Operand::Kept { tree, depth } => {
@@ -80,24 +77,22 @@ fn negation<'a>(
     tree: NamedExpression<'a>,
     times: usize,
 ) -> Result<NamedExpression<'a>, AllocError>
-    ensures { IfOk result (λ new. (positions : List Position) (unary : Unary) → length positions ≡ times → IsUnary unary tree.entry → IsUnary (negated_by positions unary) new) }
+    ensures { IfOk result (NegatesTree times tree.entry) }
 {
     if times == 0 {
         return Ok(tree);
     }
-    let tree = NamedExpression::Negation(Box::new(alloc, tree)?);
+    let node = Node::Negation(Box::new(alloc, tree)?);
+    let tree = Expression { node };
     negation(alloc, tree, times - 1)
 }
 
 impl<'a> Pending<'a> {
     /// The operation on the left operand that waits and on `right`.
     pub(crate) fn with(self, alloc: Global, right: Operand<'a>) -> Result<Operand<'a>, AllocError>
-        ensures products { IfOk result (λ new. (left : Prod) (how : Multiplication) (unary : Unary) → self.entry.operator ≡ multiplication_operator how
-            → HoldsProd left self.entry.left → HoldsUnary unary right.entry → HoldsProd (multiplied left how unary) new) }
-        ensures sums { IfOk result (λ new. (left : Sum) (how : Addition) (prod : Prod) → self.entry.operator ≡ addition_operator how
-            → HoldsSum left self.entry.left → HoldsProd prod right.entry → HoldsSum (added left how prod) new) }
-        ensures comparisons { IfOk result (λ new. (left : Sum) (how : Comparison) (sum : Sum) → self.entry.operator ≡ comparison_operator how
-            → HoldsSum left self.entry.left → HoldsSum sum right.entry → HoldsExpr (compared left how sum) new) }
+        ensures products { IfOk result (MakesProduct self.entry right.entry) }
+        ensures sums { IfOk result (MakesSum self.entry right.entry) }
+        ensures comparisons { IfOk result (MakesComparison self.entry right.entry) }
     {
         let Pending { left, operator } = self;
         let Some((one, depth)) = left.kept() else {
@@ -110,50 +105,25 @@ impl<'a> Pending<'a> {
             return Ok(Operand::TooDeep);
         }
         let operands = Box::new(alloc, (one, two))?;
-        let tree = NamedExpression::Operation(operator, operands);
+        let node = Node::Operation(operator, operands);
+        let tree = Expression { node };
         let depth = depth.max(other) + 1;
         Ok(Operand::Kept { tree, depth })
     }
 }
 
-/// The product of the operand that waits, if one does, and `operand`.
-pub(crate) fn product<'a>(
+/// The operation on the operand that waits, if one does, and on `right`; without one, `right` alone.
+pub(crate) fn joined<'a>(
     alloc: Global,
     waiting: Option<Pending<'a>>,
-    operand: Operand<'a>,
+    right: Operand<'a>,
 ) -> Result<Operand<'a>, AllocError>
-    ensures { IfOk result (λ product. (waits : Option (Prod × Multiplication)) (unary : Unary) → WaitsInProduct waits waiting.entry → HoldsUnary unary operand.entry → HoldsProd (product_of waits unary) product) }
+    ensures products { IfOk result (JoinsProduct waiting.entry right.entry) }
+    ensures sums { IfOk result (JoinsSum waiting.entry right.entry) }
+    ensures comparisons { IfOk result (JoinsComparison waiting.entry right.entry) }
 {
     match waiting {
-        Some(pending) => pending.with(alloc, operand),
-        None => Ok(operand),
-    }
-}
-
-/// The sum of the operand that waits, if one does, and `product`.
-pub(crate) fn sum<'a>(
-    alloc: Global,
-    waiting: Option<Pending<'a>>,
-    product: Operand<'a>,
-) -> Result<Operand<'a>, AllocError>
-    ensures { IfOk result (λ sum. (waits : Option (Sum × Addition)) (prod : Prod) → WaitsInSum waits waiting.entry → HoldsProd prod product.entry → HoldsSum (sum_of waits prod) sum) }
-{
-    match waiting {
-        Some(pending) => pending.with(alloc, product),
-        None => Ok(product),
-    }
-}
-
-/// The comparison of the operand that waits, if one does, and `sum`.
-pub(crate) fn comparison<'a>(
-    alloc: Global,
-    waiting: Option<Pending<'a>>,
-    sum: Operand<'a>,
-) -> Result<Operand<'a>, AllocError>
-    ensures { IfOk result (λ expression. (comparing : Comparing) (it : Sum) → WaitsInComparison comparing waiting.entry → HoldsSum it sum.entry → HoldsExpr (compared_of comparing it) expression) }
-{
-    match waiting {
-        Some(pending) => pending.with(alloc, sum),
-        None => Ok(sum),
+        Some(pending) => pending.with(alloc, right),
+        None => Ok(right),
     }
 }

@@ -6,11 +6,11 @@ ghost use Rattle.syntax.specs.Blocks.{assignment_rest, IsValueRead, IsGetRead, i
 
 use crate::cursor::Cursor;
 use crate::expressions::value;
-use crate::keys::{item, tag};
+use crate::keys::{NamedKey, item, tag};
 use crate::stop::Stop;
 use crate::{Symbol, Token};
 use std::alloc::Global;
-use steptree::{Name, NamedBlock};
+use steptree::{Block, Name, NamedBlock, Statement};
 
 /// An assignment, after its name.
 pub(crate) fn assignment<'a>(
@@ -25,11 +25,13 @@ pub(crate) fn assignment<'a>(
     cursor.sign(Symbol::Assign)?;
     let value = value(alloc, cursor)?;
     cursor.sign(Symbol::Semicolon)?;
-    let rest = Box::new(alloc, NamedBlock::End)?;
-    Ok(NamedBlock::Assign {
-        variable,
-        value,
-        rest,
+    let rest = Box::new(alloc, Block::end())?;
+    Ok(Block {
+        first: Statement::Assign {
+            variable,
+            value,
+            rest,
+        },
     })
 }
 
@@ -42,13 +44,20 @@ pub(crate) fn get<'a>(alloc: Global, cursor: &mut Cursor<'_, 'a>) -> Result<Name
     let variable = cursor.name()?;
     cursor.sign(Symbol::Assign)?;
     cursor.sign(Symbol::OpenBracket)?;
-    let item = item(alloc, cursor)?;
+    let key = item(alloc, cursor)?;
+    let NamedKey {
+        collection,
+        components,
+    } = key;
     cursor.sign(Symbol::Semicolon)?;
-    let rest = Box::new(alloc, NamedBlock::End)?;
-    Ok(NamedBlock::Get {
-        variable,
-        item,
-        rest,
+    let rest = Box::new(alloc, Block::end())?;
+    Ok(Block {
+        first: Statement::Get {
+            variable,
+            collection,
+            components,
+            rest,
+        },
     })
 }
 
@@ -58,12 +67,23 @@ fn put_item<'a>(alloc: Global, cursor: &mut Cursor<'_, 'a>) -> Result<NamedBlock
     ensures fewer { OnOk result (length (left cursor.new) < length (left cursor.old)) }
     ensures stops { IfErr result (Stops item_rest (left cursor.old) (left cursor.new)) }
 {
-    let item = item(alloc, cursor)?;
+    let key = item(alloc, cursor)?;
+    let NamedKey {
+        collection,
+        components,
+    } = key;
     cursor.sign(Symbol::Assign)?;
     let value = value(alloc, cursor)?;
     cursor.sign(Symbol::Semicolon)?;
-    let rest = Box::new(alloc, NamedBlock::End)?;
-    Ok(NamedBlock::PutItem { item, value, rest })
+    let rest = Box::new(alloc, Block::end())?;
+    Ok(Block {
+        first: Statement::PutItem {
+            collection,
+            components,
+            value,
+            rest,
+        },
+    })
 }
 
 // A tag, after `put <`.
@@ -72,10 +92,20 @@ fn put_tag<'a>(alloc: Global, cursor: &mut Cursor<'_, 'a>) -> Result<NamedBlock<
     ensures fewer { OnOk result (length (left cursor.new) < length (left cursor.old)) }
     ensures stops { IfErr result (Stops tag_rest (left cursor.old) (left cursor.new)) }
 {
-    let tag = tag(alloc, cursor)?;
+    let key = tag(alloc, cursor)?;
+    let NamedKey {
+        collection,
+        components,
+    } = key;
     cursor.sign(Symbol::Semicolon)?;
-    let rest = Box::new(alloc, NamedBlock::End)?;
-    Ok(NamedBlock::PutTag { tag, rest })
+    let rest = Box::new(alloc, Block::end())?;
+    Ok(Block {
+        first: Statement::PutTag {
+            collection,
+            components,
+            rest,
+        },
+    })
 }
 
 /// A put of an item or a tag, after its `put`.

@@ -1,10 +1,9 @@
 //! The tree of a graph text.
-ghost use Rattle.std.specs.Prelude.{◌≡◌, ◌<◌, ℕ, List, length, IfOk, IfErr};
+ghost use Rattle.std.specs.Prelude.{◌<◌, IfOk, IfErr};
 ghost use Rattle.std.specs.List.{AllByRecursion};
-ghost use Rattle.syntax.specs.Tokens.{Spot, AreTokens};
 ghost use Rattle.syntax.specs.Expected.{run, graph_expected};
 ghost use Rattle.syntax.specs.Parsed.{left, Tells};
-ghost use Rattle.syntax.specs.Graphs.{IsGraphRead};
+ghost use Rattle.syntax.specs.Graphs.{IsGraphRead, IsFaultOfStop};
 ghost use Rattle.syntax.specs.Reading.{IsRead, HasCause};
 
 use crate::cursor::Cursor;
@@ -37,7 +36,7 @@ fn whole_tree<'a>(alloc: Global, cursor: &mut Cursor<'_, 'a>) -> Result<Tree<'a>
 
 // The fault of a text of `end` bytes, if the parser stops at this cursor with `stop`.
 fn fault_of(cursor: &Cursor<'_, '_>, stop: Stop, end: usize) -> TreeFault
-    ensures { (text : List ℕ) (spots : List Spot) → AreTokens 0 text spots → end ≡ length text → Tells stop (left cursor.now) (run graph_expected spots) → HasCause text result }
+    ensures { IsFaultOfStop stop end (left cursor.now) result }
 {
     match stop {
         Stop::Syntax => TreeFault {

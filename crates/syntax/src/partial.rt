@@ -1,23 +1,22 @@
 //! What the parser keeps of an expression while it reads it.
-ghost use Rattle.std.specs.Prelude.{◌≡◌, ◌≢◌, ◌∷◌, [], ◌<◌, length, List, Option, Some, IfOk, IfErr, OnOk, OnErr};
-ghost use Rattle.syntax.specs.Tokens.{Spot};
-ghost use Rattle.syntax.specs.Grammar.{Position, Expr, Prod, Unary, bracketed, Multiplication, Addition, Comparison};
+ghost use Rattle.std.specs.Prelude.{◌<◌, ◌∷◌, List, length, IfOk, IfErr, OnOk};
+ghost use Rattle.syntax.specs.Grammar.{Position};
 ghost use Rattle.syntax.specs.Tree.{multiplication_operator, addition_operator, comparison_operator};
 ghost use Rattle.syntax.specs.Limits.{one_more, name_limits};
-ghost use Rattle.syntax.specs.Expected.{Verdict, Comparing, Level as LevelRead, Expression, operand, behind_operand, closed, finished, opened, begun, negating, bracketing, passing, without_product, product_behind, level_expr, awaiting_product, awaiting_sum, awaiting_comparison};
-ghost use Rattle.syntax.specs.Parsed.{left, BreaksOff, Tells, Stops};
-ghost use Rattle.syntax.specs.Front.{front_of};
-ghost use Rattle.syntax.specs.Whole.{IsWithinLimits, TellsLimit};
-ghost use Rattle.syntax.specs.Partial.{HoldsExpr, HoldsProd, HoldsUnary, IsPartial, IsLevel, IsFresh, comparison_may_come, Follows, IsBehind, IsAround, GoesOn, EndsAs, Fewer};
+ghost use Rattle.syntax.specs.Expected.{finished, opened, begun, negating, bracketing, passing, awaiting_product, awaiting_sum, awaiting_comparison};
+ghost use Rattle.syntax.specs.Parsed.{left};
+ghost use Rattle.syntax.specs.Whole.{OfWhole, IsWithinLimits, TellsLimit};
+ghost use Rattle.syntax.specs.Partial.{IsPartial, IsLevel, WhereFresh, EndsLevel, Becomes, EndsOperand, Awaits, ClosesBracket, EndsExpression, Fewer};
+ghost use Rattle.syntax.specs.Partial.{TakesOperand, StopsAtOperand, TakesJoint, StopsAtJoint, TellsBreak, TellsOpenBracket};
 
 use crate::cursor::Cursor;
 use crate::joints::{Head, Joint};
-use crate::operand::{Operand, Pending, comparison, product, sum};
+use crate::operand::{Operand, Pending, joined};
 use crate::stop::Stop;
 use crate::{MOST_BRACKETS, MOST_DEPTH, MOST_NAME_BYTES};
 use std::alloc::{AllocError, Global};
 use std::mem;
-use steptree::{Name, NamedExpression, Operator};
+use steptree::{Expression as Tree, Name, NamedExpression, Node, Operator};
 
 /// What waits within one bracket, or outside all brackets: the left operands of a comparison, a sum and a product, and how
 /// many minus signs stand before the operand.
@@ -76,15 +75,15 @@ pub(crate) enum After<'a> {
 impl<'a> Level<'a> {
     /// The expression of this level, which ends with `product`.
     fn whole(&mut self, alloc: Global, product: Operand<'a>) -> Result<Operand<'a>, AllocError>
-        ensures { IfOk result (λ expression. (level : LevelRead) (prod : Prod) → IsLevel level self.old → HoldsProd prod product.entry → HoldsExpr (level_expr level prod) expression) }
+        ensures { IfOk result (EndsLevel self.old product.entry) }
     {
-        let sum = sum(alloc, self.sum.take(), product)?;
-        comparison(alloc, self.comparison.take(), sum)
+        let sum = joined(alloc, self.sum.take(), product)?;
+        joined(alloc, self.comparison.take(), sum)
     }
 
     /// A level before its first operand.
     pub(crate) fn opened(may_compare: bool) -> Level<'a>
-        ensures { (comparing : Comparing) → may_compare ≡ comparison_may_come comparing → IsFresh comparing → IsLevel (opened comparing) result }
+        ensures { WhereFresh may_compare (λ comparing. IsLevel (opened comparing) result) }
     {
         Level {
             may_compare,
@@ -99,7 +98,7 @@ impl<'a> Level<'a> {
 impl<'a> Partial<'a> {
     /// An expression before its first token, which is at `first`.
     pub(crate) fn begun(alloc: Global, may_compare: bool, first: usize) -> Partial<'a>
-        ensures { (comparing : Comparing) → may_compare ≡ comparison_may_come comparing → IsFresh comparing → IsPartial (begun comparing first) result }
+        ensures { WhereFresh may_compare (λ comparing. IsPartial (begun comparing first) result) }
     {
         Partial {
             first,
@@ -111,7 +110,7 @@ impl<'a> Partial<'a> {
 
     /// After a minus sign.
     fn negate(&mut self)
-        ensures { (state : Expression) (place : Position) → IsPartial state self.old → IsPartial (negating state place) self.new }
+        ensures { (place : Position) → Becomes (λ state. negating state place) self.old self.new }
     {
         if self.level.negations <= MOST_DEPTH {
             self.level.negations += 1;
@@ -120,7 +119,7 @@ impl<'a> Partial<'a> {
 
     /// Notes that a limit is passed at `place`, unless one was passed before.
     fn pass(&mut self, place: usize)
-        ensures { (state : Expression) (others : List Position) → IsPartial state self.old → IsPartial (passing state (place ∷ others)) self.new }
+        ensures { (others : List Position) → Becomes (λ state. passing state (place ∷ others)) self.old self.new }
     {
         if self.passed.is_none() {
             self.passed = Some(place);
@@ -129,7 +128,7 @@ impl<'a> Partial<'a> {
 
     /// Notes a limit at `place` if one more open bracket is too many.
     fn count(&mut self, place: usize)
-        ensures { (state : Expression) → IsPartial state self.old → IsPartial (passing state (one_more MOST_BRACKETS (length state.outer) place)) self.new }
+        ensures { Becomes (λ state. passing state (one_more MOST_BRACKETS (length state.outer) place)) self.old self.new }
     {
         if self.outer.len() >= MOST_BRACKETS {
             self.pass(place);
@@ -138,7 +137,7 @@ impl<'a> Partial<'a> {
 
     /// After an opening bracket.
     fn open(&mut self, place: usize) -> Result<(), AllocError>
-        ensures { OnOk result ((state : Expression) → IsPartial state self.old → IsPartial (bracketing state place) self.new) }
+        ensures { OnOk result (Becomes (λ state. bracketing state place) self.old self.new) }
     {
         self.count(place);
         self.outer.reserve(1)?;
@@ -149,17 +148,16 @@ impl<'a> Partial<'a> {
 
     /// The product so far, after an operand.
     fn product(&mut self, alloc: Global, operand: Operand<'a>) -> Result<Operand<'a>, AllocError>
-        ensures { IfOk result (λ product. (state : Expression) (unary : Unary) → IsPartial state self.old → HoldsUnary unary operand.entry
-            → IsPartial (without_product state) self.new × HoldsProd (product_behind state unary) product) }
+        ensures { IfOk result (EndsOperand self.old operand.entry self.new) }
     {
         let operand = operand.negated(alloc, self.level.negations)?;
         self.level.negations = 0;
-        product(alloc, self.level.product.take(), operand)
+        joined(alloc, self.level.product.take(), operand)
     }
 
     /// Why the parser stops if the expression breaks off: the first limit passed within it, or else the next token.
     pub(crate) fn broken_off(&self) -> Stop
-        ensures { (state : Expression) (rest : List Spot) (verdict : Verdict) → IsPartial state self.now → BreaksOff state.passed rest verdict → Tells result rest verdict }
+        ensures { TellsBreak self.now result }
     {
         match self.passed {
             Some(place) => Stop::TooLarge(place),
@@ -173,9 +171,9 @@ impl<'a> Partial<'a> {
         alloc: Global,
         cursor: &mut Cursor<'_, 'a>,
     ) -> Result<Option<Operand<'a>>, Stop>
-        ensures follows { IfOk result (λ product. (state : Expression) → IsPartial state self.old → Follows (operand state) (left cursor.old) (left cursor.new) product self.new) }
+        ensures follows { IfOk result (TakesOperand self.old self.new (left cursor.old) (left cursor.new)) }
         ensures fewer { OnOk result (length (left cursor.new) < length (left cursor.old)) }
-        ensures stops { IfErr result (λ stop. (state : Expression) → IsPartial state self.old → Stops (operand state ∷ []) (left cursor.old) (left cursor.new) stop) }
+        ensures stops { IfErr result (StopsAtOperand self.old (left cursor.old) (left cursor.new)) }
     {
         let place = cursor.place();
         match Head::of(cursor.front()) {
@@ -191,14 +189,16 @@ impl<'a> Partial<'a> {
             }
             Head::Number(value) => {
                 cursor.advance();
-                let tree = NamedExpression::Number(value);
+                let node = Node::Number(value);
+                let tree = Tree { node };
                 let product = self.product(alloc, Operand::Kept { tree, depth: 1 })?;
                 Ok(Some(product))
             }
             Head::Variable(text) => {
                 cursor.advance();
                 self.pass_name(text, place);
-                let tree = NamedExpression::Variable(Name { text, place });
+                let node = Node::Variable(Name { text, place });
+                let tree = Tree { node };
                 let product = self.product(alloc, Operand::Kept { tree, depth: 1 })?;
                 Ok(Some(product))
             }
@@ -208,7 +208,7 @@ impl<'a> Partial<'a> {
 
     // Notes a limit at `place` if this name of the expression is too long.
     fn pass_name(&mut self, text: &str, place: usize)
-        ensures { (state : Expression) → IsPartial state self.old → IsPartial (passing state (name_limits (text.now, place))) self.new }
+        ensures { Becomes (λ state. passing state (name_limits (text.now, place))) self.old self.new }
     {
         if text.len() > MOST_NAME_BYTES {
             self.pass(place);
@@ -217,7 +217,7 @@ impl<'a> Partial<'a> {
 
     /// After the sign of a product.
     fn await_product(&mut self, product: Operand<'a>, operator: Operator)
-        ensures { (state : Expression) (prod : Prod) (how : Multiplication) → IsPartial state self.old → HoldsProd prod product.entry → operator ≡ multiplication_operator how → IsPartial (awaiting_product state prod how) self.new }
+        ensures { Awaits multiplication_operator awaiting_product operator self.old product.entry self.new }
     {
         self.level.product = Some(Pending {
             left: product,
@@ -232,9 +232,9 @@ impl<'a> Partial<'a> {
         product: Operand<'a>,
         operator: Operator,
     ) -> Result<(), AllocError>
-        ensures { OnOk result ((state : Expression) (prod : Prod) (how : Addition) → IsPartial state self.old → HoldsProd prod product.entry → operator ≡ addition_operator how → IsPartial (awaiting_sum state prod how) self.new) }
+        ensures { OnOk result (Awaits addition_operator awaiting_sum operator self.old product.entry self.new) }
     {
-        let left = sum(alloc, self.level.sum.take(), product)?;
+        let left = joined(alloc, self.level.sum.take(), product)?;
         self.level.sum = Some(Pending { left, operator });
         Ok(())
     }
@@ -246,9 +246,9 @@ impl<'a> Partial<'a> {
         product: Operand<'a>,
         operator: Operator,
     ) -> Result<(), AllocError>
-        ensures { OnOk result ((state : Expression) (prod : Prod) (how : Comparison) → IsPartial state self.old → HoldsProd prod product.entry → operator ≡ comparison_operator how → IsPartial (awaiting_comparison state prod how) self.new) }
+        ensures { OnOk result (Awaits comparison_operator awaiting_comparison operator self.old product.entry self.new) }
     {
-        let left = sum(alloc, self.level.sum.take(), product)?;
+        let left = joined(alloc, self.level.sum.take(), product)?;
         self.level.may_compare = false;
         self.level.comparison = Some(Pending { left, operator });
         Ok(())
@@ -261,8 +261,7 @@ impl<'a> Partial<'a> {
         product: Operand<'a>,
         around: Level<'a>,
     ) -> Result<Operand<'a>, AllocError>
-        ensures { IfOk result (λ new. (state : Expression) (prod : Prod) (level : LevelRead) (place : Position) (outer : List (LevelRead × Position)) → IsAround state self.old level outer around.entry → HoldsProd prod product.entry
-            → IsPartial (without_product (closed state level outer)) self.new × HoldsProd (product_behind (closed state level outer) (bracketed place (level_expr state.level prod))) new) }
+        ensures { IfOk result (ClosesBracket self.old around.entry product.entry self.new) }
     {
         let expression = self.level.whole(alloc, product)?;
         self.level = around;
@@ -276,9 +275,9 @@ impl<'a> Partial<'a> {
         cursor: &mut Cursor<'_, 'a>,
         product: Operand<'a>,
     ) -> Result<After<'a>, Stop>
-        ensures goes_on { IfOk result (λ after. (state : Expression) (prod : Prod) → IsPartial state self.old → IsBehind state → HoldsProd prod product.entry → GoesOn state prod (left cursor.old) (left cursor.new) after self.new) }
+        ensures goes_on { IfOk result (TakesJoint self.old product.entry self.new (left cursor.old) (left cursor.new)) }
         ensures fewer { IfOk result (λ after. Fewer after (length (left cursor.old)) (length (left cursor.new))) }
-        ensures stops { IfErr result (λ stop. (state : Expression) (prod : Prod) → IsPartial state self.old → Stops (behind_operand state prod ∷ []) (left cursor.old) (left cursor.new) stop) }
+        ensures stops { IfErr result (StopsAtJoint self.old (left cursor.old) (left cursor.new)) }
     {
         match Joint::of(cursor.front()) {
             Joint::Product(operator) => {
@@ -313,8 +312,8 @@ impl<'a> Partial<'a> {
 
     // The whole expression, which ends with `product`, unless it breaks off within a bracket.
     fn end(&mut self, alloc: Global, product: Operand<'a>) -> Result<Operand<'a>, Stop>
-        ensures whole { IfOk result (λ expression. (state : Expression) (prod : Prod) → IsPartial state self.old → HoldsProd prod product.entry → EndsAs state prod expression self.new) }
-        ensures stops { IfErr result (λ stop. (state : Expression) (rest : List Spot) (verdict : Verdict) → IsPartial state self.old → (state.outer ≢ [] → BreaksOff state.passed rest verdict) → Tells stop rest verdict) }
+        ensures whole { IfOk result (EndsExpression self.old product.entry self.new) }
+        ensures stops { IfErr result (TellsOpenBracket self.old) }
     {
         if !self.outer.is_empty() {
             return Err(self.broken_off());
@@ -325,8 +324,8 @@ impl<'a> Partial<'a> {
 
     /// The tree of a whole expression, unless it is too deep or a limit is passed within it.
     pub(crate) fn finish(&self, expression: Operand<'a>) -> Result<NamedExpression<'a>, Stop>
-        ensures within { IfOk result (λ tree. (state : Expression) (expr : Expr) → self.now.first ≡ state.first → self.now.passed ≡ state.passed → HoldsExpr expr expression.entry → IsWithinLimits state expr tree) }
-        ensures limits { IfErr result (λ stop. (state : Expression) (expr : Expr) → self.now.first ≡ state.first → self.now.passed ≡ state.passed → HoldsExpr expr expression.entry → TellsLimit stop (finished state expr)) }
+        ensures within { IfOk result (λ tree. OfWhole self.now expression.entry (λ state expr. IsWithinLimits state expr tree)) }
+        ensures limits { IfErr result (λ stop. OfWhole self.now expression.entry (λ state expr. TellsLimit stop (finished state expr))) }
     {
         let Some((tree, _)) = expression.kept() else {
             return Err(Stop::TooLarge(self.first));

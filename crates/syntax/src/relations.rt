@@ -1,11 +1,10 @@
 //! Relations between collections, steps and the environment.
-ghost use Rattle.std.specs.Prelude.{◌≡◌, ◌<◌, ◌∷◌, ◌++◌, [], length, IfOk, IfErr, OnOk, IfSome};
-ghost use Rattle.syntax.specs.declared.token.Symbol.TheVariants.{Arrow, OpenBracket, CloseBracket, OpenRound, CloseRound, Less, Greater, Semicolon};
-ghost use Rattle.syntax.specs.Expected.{exactly, a_name, relations as some_relations};
+ghost use Rattle.std.specs.Prelude.{◌≡◌, ◌<◌, ◌∷◌, [], length, IfOk, IfErr, OnOk, IfSome};
+ghost use Rattle.syntax.specs.Expected.{relations as some_relations};
 ghost use Rattle.syntax.specs.Limits.{name_limits};
-ghost use Rattle.syntax.specs.Spelled.{named, a_sign, sign_at, item_at, step_at, angled_name, environment_at};
-ghost use Rattle.syntax.specs.Parsed.{left, named_of, Reads, Stops};
-ghost use Rattle.syntax.specs.Relations.{last_name_rest, target_rest, target_name, target_pieces, reader_rest, prescribed_step, IsRelationRest, IsRelationOrNone};
+ghost use Rattle.syntax.specs.Parsed.{left, named_of, Stops};
+ghost use Rattle.syntax.specs.Relations.{last_name_rest, target_rest, target_name, reader_rest, prescribed_step, item_relation_rest, tag_relation_rest, step_relation_rest};
+ghost use Rattle.syntax.specs.Relations.{ReadsLastName, ReadsTarget, ReadsBehindItem, ReadsBehindTag, ReadsItemRelation, ReadsTagRelation, ReadsStepRelation, ReadsEnvironmentRelation, IsRelationOrNone};
 
 use crate::cursor::Cursor;
 use crate::stop::Stop;
@@ -21,7 +20,7 @@ pub(crate) enum Target<'a> {
 
 // A name at the end of a relation, with its closing bracket and the semicolon.
 fn last_name<'a>(cursor: &mut Cursor<'_, 'a>, close: Symbol) -> Result<Name<'a>, Stop>
-    ensures reads { IfOk result (λ name. Reads (last_name_rest close) [] (named (named_of name) ∷ a_sign close ++ a_sign Semicolon) (left cursor.old) (left cursor.new)) }
+    ensures reads { IfOk result (λ name. ReadsLastName close name (left cursor.old) (left cursor.new)) }
     ensures within { IfOk result (λ name. name_limits (named_of name) ≡ []) }
     ensures fewer { OnOk result (length (left cursor.new) < length (left cursor.old)) }
     ensures stops { IfErr result (Stops (last_name_rest close) (left cursor.old) (left cursor.new)) }
@@ -34,7 +33,7 @@ fn last_name<'a>(cursor: &mut Cursor<'_, 'a>, close: Symbol) -> Result<Name<'a>,
 
 // What is put, from the arrow on.
 fn arrow_target<'a>(cursor: &mut Cursor<'_, 'a>) -> Result<Target<'a>, Stop>
-    ensures reads { IfOk result (λ target. Reads target_rest [] (a_sign Arrow ++ target_pieces target ++ a_sign Semicolon) (left cursor.old) (left cursor.new)) }
+    ensures reads { IfOk result (λ target. ReadsTarget target (left cursor.old) (left cursor.new)) }
     ensures within { IfOk result (λ target. name_limits (named_of (target_name target)) ≡ []) }
     ensures fewer { OnOk result (length (left cursor.new) < length (left cursor.old)) }
     ensures stops { IfErr result (Stops target_rest (left cursor.old) (left cursor.new)) }
@@ -61,7 +60,7 @@ pub(crate) fn behind_item<'a>(
     place: usize,
     item: Name<'a>,
 ) -> Result<Relation<'a>, Stop>
-    ensures reads { IfOk result (λ relation. IsRelationRest reader_rest [] (item_at place (named_of item.entry)) (name_limits (named_of item.entry)) relation (left cursor.old) (left cursor.new)) }
+    ensures reads { IfOk result (λ relation. ReadsBehindItem place (named_of item.entry) relation (left cursor.old) (left cursor.new)) }
     ensures fewer { OnOk result (length (left cursor.new) < length (left cursor.old)) }
     ensures stops { IfErr result (Stops reader_rest (left cursor.old) (left cursor.new)) }
 {
@@ -86,7 +85,7 @@ pub(crate) fn behind_tag<'a>(
     cursor: &mut Cursor<'_, 'a>,
     tag: Name<'a>,
 ) -> Result<Relation<'a>, Stop>
-    ensures reads { IfOk result (λ relation. IsRelationRest prescribed_step [] (angled_name (named_of tag.entry)) (name_limits (named_of tag.entry)) relation (left cursor.old) (left cursor.new)) }
+    ensures reads { IfOk result (λ relation. ReadsBehindTag (named_of tag.entry) relation (left cursor.old) (left cursor.new)) }
     ensures fewer { OnOk result (length (left cursor.new) < length (left cursor.old)) }
     ensures stops { IfErr result (Stops prescribed_step (left cursor.old) (left cursor.new)) }
 {
@@ -98,9 +97,9 @@ pub(crate) fn behind_tag<'a>(
 
 // A relation that begins with an item, after the bracket at `place`.
 fn item_relation<'a>(cursor: &mut Cursor<'_, 'a>, place: usize) -> Result<Relation<'a>, Stop>
-    ensures reads { IfOk result (λ relation. IsRelationRest (a_name ∷ exactly CloseBracket ∷ reader_rest) [] (sign_at place OpenBracket) [] relation (left cursor.old) (left cursor.new)) }
+    ensures reads { IfOk result (λ relation. ReadsItemRelation place relation (left cursor.old) (left cursor.new)) }
     ensures fewer { OnOk result (length (left cursor.new) < length (left cursor.old)) }
-    ensures stops { IfErr result (Stops (a_name ∷ exactly CloseBracket ∷ reader_rest) (left cursor.old) (left cursor.new)) }
+    ensures stops { IfErr result (Stops item_relation_rest (left cursor.old) (left cursor.new)) }
 {
     let item = cursor.name()?;
     cursor.sign(Symbol::CloseBracket)?;
@@ -109,9 +108,9 @@ fn item_relation<'a>(cursor: &mut Cursor<'_, 'a>, place: usize) -> Result<Relati
 
 // A prescription, after its first bracket.
 fn tag_relation<'a>(cursor: &mut Cursor<'_, 'a>) -> Result<Relation<'a>, Stop>
-    ensures reads { IfOk result (λ relation. IsRelationRest (a_name ∷ exactly Greater ∷ prescribed_step) [] (a_sign Less) [] relation (left cursor.old) (left cursor.new)) }
+    ensures reads { IfOk result (λ relation. ReadsTagRelation relation (left cursor.old) (left cursor.new)) }
     ensures fewer { OnOk result (length (left cursor.new) < length (left cursor.old)) }
-    ensures stops { IfErr result (Stops (a_name ∷ exactly Greater ∷ prescribed_step) (left cursor.old) (left cursor.new)) }
+    ensures stops { IfErr result (Stops tag_relation_rest (left cursor.old) (left cursor.new)) }
 {
     let tag = cursor.name()?;
     cursor.sign(Symbol::Greater)?;
@@ -120,9 +119,9 @@ fn tag_relation<'a>(cursor: &mut Cursor<'_, 'a>) -> Result<Relation<'a>, Stop>
 
 // What a step puts, after the bracket at `place`.
 fn step_relation<'a>(cursor: &mut Cursor<'_, 'a>, place: usize) -> Result<Relation<'a>, Stop>
-    ensures reads { IfOk result (λ relation. IsRelationRest (a_name ∷ exactly CloseRound ∷ target_rest) [] (sign_at place OpenRound) [] relation (left cursor.old) (left cursor.new)) }
+    ensures reads { IfOk result (λ relation. ReadsStepRelation place relation (left cursor.old) (left cursor.new)) }
     ensures fewer { OnOk result (length (left cursor.new) < length (left cursor.old)) }
-    ensures stops { IfErr result (Stops (a_name ∷ exactly CloseRound ∷ target_rest) (left cursor.old) (left cursor.new)) }
+    ensures stops { IfErr result (Stops step_relation_rest (left cursor.old) (left cursor.new)) }
 {
     let step = cursor.name()?;
     cursor.sign(Symbol::CloseRound)?;
@@ -134,7 +133,7 @@ fn step_relation<'a>(cursor: &mut Cursor<'_, 'a>, place: usize) -> Result<Relati
 
 // What the environment puts, after the word at `place`.
 fn environment_relation<'a>(cursor: &mut Cursor<'_, 'a>, place: usize) -> Result<Relation<'a>, Stop>
-    ensures reads { IfOk result (λ relation. IsRelationRest target_rest [] (environment_at place) [] relation (left cursor.old) (left cursor.new)) }
+    ensures reads { IfOk result (λ relation. ReadsEnvironmentRelation place relation (left cursor.old) (left cursor.new)) }
     ensures fewer { OnOk result (length (left cursor.new) < length (left cursor.old)) }
     ensures stops { IfErr result (Stops target_rest (left cursor.old) (left cursor.new)) }
 {

@@ -1,10 +1,10 @@
 //! The names of a step: its parameters and its variables.
-ghost use Rattle.std.specs.Prelude.{◌≡◌, ◌<◌, ◌≤◌, ◌-◌, ◌∷◌, [], length, IfOk, IfErr, OnOk};
+ghost use Rattle.std.specs.Prelude.{◌<◌, ◌≤◌, ◌-◌, ◌∷◌, [], length, IfOk, IfErr, OnOk};
 ghost use Rattle.terms.specs.declared.key.TheConstants.{MAX_COMPONENTS};
 ghost use Rattle.steptree.specs.declared.slot.TheConstants.{MOST_NAMES};
 ghost use Rattle.syntax.specs.Expected.{parameters as some_parameters, variables as some_variables};
 ghost use Rattle.syntax.specs.Parsed.{left, Stops};
-ghost use Rattle.syntax.specs.StepNames.{TakesOn, StopsOn, NameList, IsListRead, NoParameters, AreParameters, AreVariables};
+ghost use Rattle.syntax.specs.StepNames.{TakesOn, StopsOn, AreListed, StopsInList, NoParameters, AreParameters, AreVariables};
 
 use crate::cursor::Cursor;
 use crate::stop::Stop;
@@ -40,10 +40,10 @@ fn listed<'a>(
     most: usize,
     close: Symbol,
 ) -> Result<Vec<Name<'a>>, Stop>
-    ensures reads { IfOk result (λ names. (list : NameList most close) → IsListRead most close names.items (left cursor.old) (left cursor.new) list) }
+    ensures reads { IfOk result (λ names. AreListed most close names.items (left cursor.old) (left cursor.new)) }
     ensures few { IfOk result (λ names. length names.items ≤ most) }
     ensures fewer { OnOk result (length (left cursor.new) < length (left cursor.old)) }
-    ensures stops { IfErr result (λ stop. (list : NameList most close) → Stops (list.name_at 0 ∷ []) (left cursor.old) (left cursor.new) stop) }
+    ensures stops { IfErr result (StopsInList most close (left cursor.old) (left cursor.new)) }
 {
     let mut names = Vec::new(alloc);
     loop {

@@ -2,9 +2,8 @@
 ghost use Rattle.std.specs.Prelude.{◌≡◌, ◌<◌, ◌≤◌, ◌∷◌, [], length, IfOk, IfErr, OnOk};
 ghost use Rattle.steptree.specs.declared.sheet.TheConstants.{MOST_COLLECTIONS};
 ghost use Rattle.syntax.specs.Limits.{name_limits};
-ghost use Rattle.syntax.specs.Spelled.{named};
 ghost use Rattle.syntax.specs.Expected.{step_name as name_of_step, steps as some_steps};
-ghost use Rattle.syntax.specs.Parsed.{left, named_of, Reads, Stops};
+ghost use Rattle.syntax.specs.Parsed.{left, named_of, ReadsName, Stops};
 ghost use Rattle.syntax.specs.Statements.{part_of};
 ghost use Rattle.syntax.specs.Steps.{part_expected, IsPartRead, step_expected, IsStepRead, AreStepsRead};
 
@@ -36,7 +35,7 @@ fn part_block<'a>(
 
 // The name of a step, with `before` steps before it.
 fn step_name<'a>(cursor: &mut Cursor<'_, 'a>, before: usize) -> Result<Name<'a>, Stop>
-    ensures reads { IfOk result (λ name. Reads (name_of_step before ∷ []) [] (named (named_of name) ∷ []) (left cursor.old) (left cursor.new)) }
+    ensures reads { IfOk result (λ name. ReadsName (name_of_step before) name (left cursor.old) (left cursor.new)) }
     ensures within { IfOk result (λ name. name_limits (named_of name) ≡ []) }
     ensures room { OnOk result (before < MOST_COLLECTIONS) }
     ensures fewer { OnOk result (length (left cursor.new) < length (left cursor.old)) }

@@ -29,7 +29,7 @@ nested-returns-clause-reads t c =
 -- ---- the second block of a choice
 
 pub second-returns-then-not-takes_word-clause-reads : goal.second-returns-then-not-takes_word-clause-reads
-second-returns-then-not-takes_word-clause-reads t c = no_second (part_of c.args.part) c.args.around _ _ c.if-not-takes_word.ensures.taken
+second-returns-then-not-takes_word-clause-reads t c = rw c.end.ensures (no_second (part_of c.args.part) c.args.around _ _ c.if-not-takes_word.ensures.taken)
 
 pub second-returns-in_err-block-clause-stops : goal.second-returns-in_err-block-clause-stops
 second-returns-in_err-block-clause-stops t c =
@@ -54,7 +54,7 @@ choice-returns-clause-reads t c =
       statement = choice_of part condition.expr first.position first.block second.second;
       reads = subst (λ pieces. Reads (choice_expected part around) [] pieces (left c.args.cursor.now) (left c.second.new.cursor)) (choice_pieces part condition.expr first.position first.block second.second)
           (choice_reads part around condition.expr _ _ (left c.args.cursor.now) (left c.keyword.new.self) (left c.condition.new.cursor) (left c.nested.new.cursor) (left c.second.new.cursor) c.in_ok-keyword.ensures.reads condition.reads first.reads second.reads);
-      is = λ rest. choice_is part condition.expr first.position first.block second.second c.in_ok-condition.condition _ _ _ _ _ rest condition.is
+      is = λ rest. choice_is part condition.expr first.position first.block second.second c.in_ok-condition.condition _ _ rest condition.is
           (subst (AreStatements (is_own part) first.block) (sym one_is) first.are) (subst (IsSecond part second.second) (sym two_is) second.is);
       within = choice_limits part around condition.expr first.position first.block second.second condition.within first.within second.within;
     }

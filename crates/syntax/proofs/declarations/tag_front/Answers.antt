@@ -1,12 +1,14 @@
-use Rattle.std.proofs.Common.{[], ◌∷◌, refl, sym, subst, ◌∙◌, flat_map}
+use Rattle.std.proofs.Common.{[], refl, subst, flat_map}
 use Rattle.terms.specs.declared.key.TheConstants.{MAX_COMPONENTS}
+use Rattle.syntax.specs.declared.token.Symbol.TheVariants as sign
 use Rattle.syntax.specs.Grammar.{tag_declared}
 use Rattle.syntax.specs.Limits.{name_limits, names_behind, all_names, declarations_limits}
-use Rattle.syntax.specs.Expected.{tag, relations}
-use Rattle.syntax.specs.Parsed.{left, named_of, Tells}
+use Rattle.syntax.specs.Spelled.{a_sign}
+use Rattle.syntax.specs.Expected.{tag}
+use Rattle.syntax.specs.Parsed.{left, named_of}
 use Rattle.syntax.specs.Declarations.{IsBehindName}
 use Rattle.syntax.proofs.Moves.{reads_on}
-use Rattle.syntax.proofs.DeclarationParts.{front_name, front_stops, behind_it, none_passed}
+use Rattle.syntax.proofs.DeclarationParts.{front_name, front_stops, front_related, related_stops, none_passed}
 use Rattle.syntax.proofs.Stopping.{passed_on}
 use Rattle.syntax.proofs.declarations.tag_front.Goals as goal
 
@@ -18,10 +20,10 @@ returns-in_err-name-clause-stops c =
 pub returns-in_err-relation-in-None-clause-stops : goal.returns-in_err-relation-in-None-clause-stops
 returns-in_err-relation-in-None-clause-stops c =
     passed_on c.from_residual-in_err-relation-in-None.result c.in_err-relation-in-None.field-0.0 _ c.from_residual-in_err-relation-in-None.ensures.1
-    (λ items tags room behind.
-    let name = front_name tag items tags c.in_ok-name.name (left c.args.cursor.now) (left c.name.new.self) c.in_ok-name.ensures.reads in
+    (λ items tags room.
     let closed = subst (λ it. IsBehindName tag items tags c.in_ok-name.name.place it (left c.name.new.self) (left c.behind_name.new.cursor)) c.in-None.is (c.in_ok-components.ensures.reads tag items tags refl room) in
-    subst (Tells c.in_err-relation-in-None.field-0.0 (left c.behind_tag.new.cursor)) (sym (name.goes behind ∙ closed.goes behind)) (c.in_err-relation-in-None.ensures.stops (relations ∷ behind)))
+    related_stops tag items tags c.in_ok-name.name (left c.args.cursor.now) (left c.name.new.self) (left c.behind_name.new.cursor) (left c.behind_tag.new.cursor) c.in_err-relation-in-None.field-0.0
+    c.in_ok-name.ensures.reads closed c.in_err-relation-in-None.ensures.stops)
 
 pub returns-in-Some-clause-reads : goal.returns-in-Some-clause-reads
 returns-in-Some-clause-reads c = λ items tags room.
@@ -41,14 +43,6 @@ returns-in-Some-clause-reads c = λ items tags room.
 pub returns-in_ok-relation-in-None-clause-reads : goal.returns-in_ok-relation-in-None-clause-reads
 returns-in_ok-relation-in-None-clause-reads c = λ items tags room.
     let name = c.in_ok-name.name in
-    let first = front_name tag items tags name (left c.args.cursor.now) (left c.name.new.self) c.in_ok-name.ensures.reads in
     let closed = subst (λ it. IsBehindName tag items tags name.place it (left c.name.new.self) (left c.behind_name.new.cursor)) c.in-None.is (c.in_ok-components.ensures.reads tag items tags refl room) in
-    let rest = c.in_ok-relation-in-None.ensures.reads in
-    record {
-      relation = rest.relation;
-      rest = _;
-      spelled = rest.spelled;
-      reads = reads_on [] first (reads_on [] closed (behind_it (relations ∷ []) rest.reads));
-      is = rest.is;
-      within = rest.within ∙ c.in_ok-name.ensures.within;
-    }
+    front_related tag items tags name (a_sign sign.Less) (name_limits (named_of name)) c.in_ok-relation-in-None.relation (left c.args.cursor.now) (left c.name.new.self) (left c.behind_name.new.cursor) (left c.behind_tag.new.cursor)
+    c.in_ok-name.ensures.reads closed c.in_ok-relation-in-None.ensures.reads c.in_ok-name.ensures.within

@@ -1,9 +1,9 @@
-use Rattle.std.proofs.Common.{◌≤◌, length, subst, arith, rules}
+use Rattle.std.proofs.Common.{◌≤◌, length, None, Some, subst, arith, rules}
 use Rattle.syntax.specs.Parsed.{left}
 use Rattle.syntax.specs.Partial.{GoesOn, Fewer}
 use Rattle.syntax.specs.Whole.{Reached}
 use Rattle.syntax.proofs.Stopping.{passed_on}
-use Rattle.syntax.proofs.Wholes.{begun_on, awaits_on, product_on, expression_read, expression_stops, some_comparing}
+use Rattle.syntax.proofs.Wholes.{begun_on, product_on, expression_read, expression_stops, some_comparing}
 use Rattle.syntax.proofs.expressions.expression.Goals as goal
 
 pub loop-product-preserved-in-None : goal.loop-product-preserved-in-None
@@ -19,7 +19,7 @@ loop-product-preserved-in-AwaitsOperand c = λ comparing may fresh.
     let now = left c.loop-product.cursor in
     let after = left c.go_on.new.cursor in
     let reached = subst (λ product. Reached comparing start now product c.loop-product.partial) c.in-Some.is (c.loop-product.invariant comparing may fresh) in
-    awaits_on comparing start now after c.in-Some.operand c.loop-product.partial c.go_on.new.self reached
+    product_on comparing start now after c.in-Some.operand None c.loop-product.partial c.go_on.new.self reached
     (λ state prod is nothing holds. subst (λ it. GoesOn state prod now after it c.go_on.new.self) c.in-AwaitsOperand.is (c.in_ok-go_on-in-Some.ensures.goes_on state prod is nothing holds))
     (subst (λ it. Fewer it (length now) (length after)) c.in-AwaitsOperand.is c.in_ok-go_on-in-Some.ensures.fewer)
 
@@ -29,7 +29,7 @@ loop-product-preserved c = λ comparing may fresh.
     let now = left c.loop-product.cursor in
     let after = left c.go_on.new.cursor in
     let reached = subst (λ product. Reached comparing start now product c.loop-product.partial) c.in-Some.is (c.loop-product.invariant comparing may fresh) in
-    product_on comparing start now after c.in-Some.operand c.in-HasProduct.operand c.loop-product.partial c.go_on.new.self reached
+    product_on comparing start now after c.in-Some.operand (Some c.in-HasProduct.operand) c.loop-product.partial c.go_on.new.self reached
     (λ state prod is nothing holds. subst (λ it. GoesOn state prod now after it c.go_on.new.self) c.in-HasProduct.is (c.in_ok-go_on-in-Some.ensures.goes_on state prod is nothing holds))
     (subst (λ it. Fewer it (length now) (length after)) c.in-HasProduct.is c.in_ok-go_on-in-Some.ensures.fewer)
 

@@ -8,7 +8,7 @@ use Rattle.syntax.proofs.own_statements.get.Goals as goal
 
 pub returns-clause-reads : goal.returns-clause-reads
 returns-clause-reads c =
-    let key = c.in_ok-item.ensures.reads in
+    let key = c.in_ok-key.ensures.reads in
     record {
       get = record { variable = named_of c.in_ok-variable.variable; item = key.key };
       reads = reads_on (exactly sign.Assign ∷ exactly sign.OpenBracket ∷ key_rest item ++ exactly sign.Semicolon ∷ []) c.in_ok-variable.ensures.reads

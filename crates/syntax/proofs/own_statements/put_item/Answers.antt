@@ -11,7 +11,7 @@ use Rattle.syntax.proofs.own_statements.put_item.Goals as goal
 
 pub returns-clause-reads : goal.returns-clause-reads
 returns-clause-reads c =
-    let key = c.in_ok-item.ensures.reads in
+    let key = c.in_ok-key.ensures.reads in
     let value = c.in_ok-value.ensures.reads in
     let same = value_put (named key.key.collection) (sums_pieces key.key.components) (a_sign sign.CloseBracket) (a_sign sign.Assign) (expr_pieces value.expr) (a_sign sign.Semicolon) in
     record {

@@ -6,7 +6,7 @@ use Rattle.syntax.proofs.own_statements.put_tag.Goals as goal
 
 pub returns-clause-reads : goal.returns-clause-reads
 returns-clause-reads c =
-    let key = c.in_ok-tag.ensures.reads in
+    let key = c.in_ok-key.ensures.reads in
     record {
       key = key.key;
       reads = reads_on (exactly sign.Semicolon ∷ []) key.reads c.in_ok-sign.ensures.reads;

@@ -4,7 +4,7 @@ use Rattle.syntax.proofs.partial.Partial.await_comparison.Goals as goal
 
 pub returns : goal.returns
 returns c = λ state prod how is holds operates.
-    let sum = c.in_ok-left.ensures state.level.sum prod (subst (WaitsInSum state.level.sum) (sym c.take.ensures.value) is.level.sum) holds in
+    let sum = c.in_ok-left.ensures.sums state.level.sum prod (subst (WaitsInSum state.level.sum) (sym c.take.ensures.value) is.level.sum) holds in
     record {
       first = is.first;
       passed = is.passed;

@@ -18,7 +18,7 @@ returns-in-Minus-clause-follows c = λ state is.
     let before = left c.args.cursor.now in
     let place = c.place-place.result in
     let lexeme = is_minus (front_of before).0 (subst (λ it. IsHead (head it) Minus) c.front.ensures c.in-Minus.ensures) in
-    (negating state place, c.negate.ensures state place is, onward_minus before _ place (sym c.place-place.ensures) c.advance.ensures state lexeme)
+    (negating state place, c.negate.ensures place state is, onward_minus before _ place (sym c.place-place.ensures) c.advance.ensures state lexeme)
 
 pub returns-in_ok-open-in-OpenBracket-clause-follows : goal.returns-in_ok-open-in-OpenBracket-clause-follows
 returns-in_ok-open-in-OpenBracket-clause-follows c = λ state is.

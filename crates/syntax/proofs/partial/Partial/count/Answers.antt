@@ -8,7 +8,7 @@ use Rattle.syntax.proofs.partial.Partial.count.Goals as goal
 pub returns-then-len-ge-MOST_BRACKETS : goal.returns-then-len-ge-MOST_BRACKETS
 returns-then-len-ge-MOST_BRACKETS c = λ state is.
     let many = too_many_more MOST_BRACKETS (length state.outer) c.args.place (omega (arith, as_many_open state c.args.self.now is, c.len.ensures)) in
-    subst (λ places. IsPartial (passing state places) c.pass.new.self) (sym many) (c.pass.ensures state [] is)
+    subst (λ places. IsPartial (passing state places) c.pass.new.self) (sym many) (c.pass.ensures [] state is)
 
 pub returns-else-len-ge-MOST_BRACKETS : goal.returns-else-len-ge-MOST_BRACKETS
 returns-else-len-ge-MOST_BRACKETS c = λ state is.

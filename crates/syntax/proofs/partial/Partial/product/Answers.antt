@@ -5,7 +5,7 @@ use Rattle.syntax.proofs.Returned.{as_ok}
 use Rattle.syntax.proofs.partial.Partial.product.Goals as goal
 
 pub returns : goal.returns
-returns c = as_ok c.product.result _ _ c.product.ensures (λ new holds_product state unary is holds.
+returns c = as_ok c.joined.result _ _ c.joined.ensures.products (λ new holds_product state unary is holds.
     let negated = c.in_ok-operand.ensures state.level.negations unary is.level.negations holds in (
       record {
         first = is.first;

@@ -1,29 +1,14 @@
--- Lists of names that the grammar derives, each with a limit on the number of names.
-use Rattle.std.proofs.Common.{◌≡◌, ◌<◌, ◌≤◌, ℕ, zero, suc, Bool, true, false, ◌-◌, arith, rules, List, [], ◌∷◌, ◌++◌, Some, refl, sym, ap, ◌∙◌}
-use Rattle.std.specs.Prelude.{⊤}
+-- The limits at names one after another, and the limit on their number.
+use Rattle.std.proofs.Common.{◌≡◌, ◌<◌, ◌≤◌, ℕ, zero, suc, Bool, true, false, ◌-◌, arith, rules, List, [], ◌∷◌, ◌++◌, refl, sym, ap, ◌∙◌}
 use Rattle.std.specs.List.{flat_map}
 use Rattle.std.proofs.Math.Dec.{ltb}
 use Rattle.std.proofs.lemmas.Bool.{ltb-false}
 use Rattle.std.proofs.lemmas.List.{append_assoc}
-use Rattle.terms.specs.declared.key.TheConstants.{MAX_COMPONENTS}
-use Rattle.syntax.specs.declared.token.Symbol.TheVariants as sign
-use Rattle.syntax.specs.Tokens.{Lexeme, symbol}
-use Rattle.syntax.specs.Grammar.{Position, Named, Names}
-use Rattle.syntax.specs.Spelled.{Piece, named, a_sign, names_pieces}
-use Rattle.syntax.specs.Limits.{one_more, name_limits, names_behind, all_names}
-use Rattle.syntax.specs.Expected.{component_name, behind_component, left_out, look}
-use Rattle.syntax.proofs.Judged.{Comes, Any, any_fronts, comes_on, token, token_at, nothing}
+use Rattle.syntax.specs.Grammar.{Position, Named}
+use Rattle.syntax.specs.Limits.{one_more, name_limits, names_behind}
 use Rattle.syntax.proofs.Partials.{few_more, too_many_more}
-use Rattle.syntax.proofs.Covers.{Covers, covers_same, covers_then, covers_on, covers_swap, covers_middle, comes_covered}
-
--- the limits at each of these names, with `before` names before them
-abbrev pub each_limits : (ℕ → Position → List Position) → ℕ → List Named → List Position
-each_limits limits before [] = []
-each_limits limits before (it ∷ names) = (name_limits it ++ limits before it.1) ++ each_limits limits (suc before) names
-
-abbrev pub counted : ℕ → List Named → ℕ
-counted before [] = before
-counted before (it ∷ names) = counted (suc before) names
+use Rattle.syntax.proofs.Covers.{Covers, covers_same, covers_then, covers_on, covers_swap, covers_middle}
+use Rattle.syntax.proofs.Fillings.{each_limits, counted}
 
 pub each_append : (limits : ℕ → Position → List Position) (before : ℕ) (one two : List Named) → each_limits limits before (one ++ two) ≡ each_limits limits before one ++ each_limits limits (counted before one) two
 each_append limits before [] two = refl
@@ -70,31 +55,3 @@ both_covers one two before (it ∷ names) =
     covers_then (covers_on (covers_then (covers_on (covers_same refl) (covers_swap first second)) (covers_same (sym (append_assoc (name_limits it) second first)))) (both_covers one two (suc before) names))
     (covers_then (covers_middle (name_limits it ++ second) first (each_limits (one_more two) (suc before) names) (names_behind (one - suc before) names))
     (covers_same (ap (λ (list : List Position). ((name_limits it ++ second) ++ each_limits (one_more two) (suc before) names) ++ list) (sym (behind_step one before it names)))))
-
--- ---- the components of a declaration
-
--- a token that ends the names of components
-abbrev pub EndsNames : Lexeme → Type 0
-EndsNames (symbol sign.CloseBracket) = ⊤
-EndsNames (symbol sign.Greater) = ⊤
-EndsNames _ = ⊥
-
-no_more_names : (before : ℕ) (lexeme : Lexeme) (position : Position) → EndsNames lexeme → look (behind_component before) lexeme position ≡ left_out
-no_more_names before (symbol sign.CloseBracket) position end = refl
-no_more_names before (symbol sign.Greater) position end = refl
-no_more_names before _ position end = absurd end
-
-abbrev pub comma_named : Named → List Piece
-comma_named it = a_sign sign.Comma ++ named it ∷ []
-
-component_comes : (before : ℕ) (it : Named) → Comes Any (component_name before ∷ []) (behind_component (suc before) ∷ []) (named it ∷ []) (name_limits it ++ one_more MAX_COMPONENTS before it.1)
-component_comes before it = token_at refl
-
-more_names_come : (before : ℕ) (more : List Named) → Comes EndsNames (behind_component before ∷ []) [] (flat_map comma_named more) (each_limits (one_more MAX_COMPONENTS) before more)
-more_names_come before [] = nothing (no_more_names before)
-more_names_come before (it ∷ more) =
-    comes_on (comes_on (token {first = behind_component before} {more = component_name before ∷ []} {lexeme = symbol sign.Comma} (λ position. refl)) any_fronts (component_comes before it)) any_fronts
-    (more_names_come (suc before) more)
-
-pub names_come : (names : Names) → Comes EndsNames (component_name 0 ∷ []) [] (names_pieces names) (flat_map name_limits (all_names (Some names)) ++ names_behind MAX_COMPONENTS (all_names (Some names)))
-names_come names = comes_covered (each_covers MAX_COMPONENTS 0 (names.first ∷ names.more)) (comes_on (component_comes 0 names.first) any_fronts (more_names_come 1 names.more))
