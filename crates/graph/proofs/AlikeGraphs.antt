@@ -1,5 +1,5 @@
 -- All trees of one derivation that are graphs are one graph.
-use Rattle.std.proofs.Common.{◌≡◌, List, [], ◌∷◌, ◌++◌, map, Some, refl, sym, ap, subst, ◌∙◌}
+use Rattle.std.proofs.Common.{◌≡◌, List, [], ◌∷◌, ◌++◌, map, Some, refl, sym, ap, subst, ◌∙◌, arith}
 use Rattle.std.proofs.lemmas.List.{map-append}
 use Rattle.steptree.specs.declared.step.Name.{Name}
 use Rattle.steptree.specs.declared.step.Step.{Step as NamedStep}
@@ -11,25 +11,19 @@ use Rattle.syntax.specs.Grammar.{Named, StepText, GraphText}
 use Rattle.syntax.specs.Limits.{all_names}
 use Rattle.syntax.specs.Tree.{IsName, AreAll, IsStep, IsTree, IsGet, IsPut}
 use Rattle.graph.specs.Graph.{Step, Graph}
-use Rattle.graph.specs.Tree.{text_of, is_environment_item_put, is_environment_tag_put, is_environment_get, each_of, prescriber_of, sheet_in, IsStepOf, IsGraphOf}
+use Rattle.graph.specs.Tree.{text_of, is_environment_item_put, is_environment_tag_put, is_environment_get, prescriber_of, sheet_in, IsStepOf, IsGraphOf}
 use Rattle.graph.proofs.AlikeTrees.{statements_alike, get_alike, put_alike}
 use Rattle.graph.proofs.AlikeBodies.{block_same}
-use Rattle.graph.proofs.AlikeSheets.{SharesNames, shared, sheet_same}
-use Rattle.graph.proofs.SmallTrees.{as_many}
-use Rattle.graph.proofs.Ties.{prescriber_tie, prescriber_told, each_same, environment_item_tie, environment_item_told, environment_tag_tie, environment_tag_told, environment_get_tie, environment_get_told}
+use Rattle.graph.proofs.Lists.{as_many, in_common}
+use Rattle.graph.proofs.Bare.{SharesNames, shared, sheet_same, prescriber_same, each_same}
 
 -- ---- steps
 
-texts_are : (texts : List Named) (names : List Name) → AreAll IsName texts names → map (λ (name : Name). name.text.now) names ≡ map (λ (it : Named). it.0) texts
-texts_are [] [] are = refl
-texts_are [] (name ∷ names) are = absurd are
-texts_are (it ∷ texts) [] are = absurd are
-texts_are (it ∷ texts) (name ∷ names) are = λ i. are.0.0 i ∷ texts_are texts names are.1 i
-
 pub names_are : (text : StepText) (step : NamedStep) → IsStep text step → names_of step ≡ map (λ (it : Named). it.0) (all_names text.parameters) ++ map (λ (it : Named). it.0) (all_names text.variables)
 names_are text step is =
+    let texts = in_common IsName (λ (it : Named). it.0) (λ (name : Name). name.text.now) (λ it name is. sym is.0) in
     map-append (λ (name : Name). name.text.now) step.parameters.items step.variables.items
-    ∙ (λ i. texts_are (all_names text.parameters) step.parameters.items is.parameters i ++ texts_are (all_names text.variables) step.variables.items is.variables i)
+    ∙ (λ i. sym (texts (all_names text.parameters) step.parameters.items is.parameters) i ++ sym (texts (all_names text.variables) step.variables.items is.variables) i)
 
 -- two trees of one derivation, and the graphs that they are
 module _ (t u : Tree) (g h : Graph) (same : SharesNames t u) (tags_are_same : g.tags ≡ h.tags) where
@@ -39,7 +33,7 @@ module _ (t u : Tree) (g h : Graph) (same : SharesNames t u) (tags_are_same : g.
       let step_named : first.name ≡ second.name = c.name ∙ named ∙ sym d.name in
       let names : names_of one ≡ names_of two = names_are text one a ∙ sym (names_are text two b) in
       let found : prescriber_of t.relations.items first.name ≡ prescriber_of u.relations.items second.name =
-      prescriber_told t.relations.items first.name ∙ (λ i. prescriber_tie (same.ties i) (step_named i)) ∙ sym (prescriber_told u.relations.items second.name) in
+      prescriber_same t u same first.name ∙ ap (prescriber_of u.relations.items) step_named in
       let one_tag : Some c.prescriber.0 ≡ Some d.prescriber.0 = sym c.prescriber.1 ∙ found ∙ d.prescriber.1 in
       let tag : c.prescriber.0 ≡ d.prescriber.0 = cc in
       let numbers : Some first.prescriber ≡ Some second.prescriber = sym c.prescriber.2 ∙ (λ i. place_of (names_in (tags_are_same i)) (tag i)) ∙ d.prescriber.2 in
@@ -69,16 +63,9 @@ module _ (t u : Tree) (g h : Graph) (same : SharesNames t u) (tags_are_same : g.
   steps_same : (texts : List StepText) (ones twos : List NamedStep) (firsts seconds : List Step) → AreAll IsStep texts ones → AreAll IsStep texts twos → AreAll (IsStepOf t g) ones firsts → AreAll (IsStepOf u h) twos seconds
       → firsts ≡ seconds
   steps_same [] [] [] [] [] a b c d = refl
-  steps_same [] [] [] [] (second ∷ seconds) a b c d = absurd d
-  steps_same [] [] [] (first ∷ firsts) seconds a b c d = absurd c
-  steps_same [] [] (two ∷ twos) firsts seconds a b c d = absurd b
-  steps_same [] (one ∷ ones) twos firsts seconds a b c d = absurd a
-  steps_same (text ∷ texts) [] twos firsts seconds a b c d = absurd a
-  steps_same (text ∷ texts) (one ∷ ones) [] firsts seconds a b c d = absurd b
-  steps_same (text ∷ texts) (one ∷ ones) (two ∷ twos) [] seconds a b c d = absurd c
-  steps_same (text ∷ texts) (one ∷ ones) (two ∷ twos) (first ∷ firsts) [] a b c d = absurd d
   steps_same (text ∷ texts) (one ∷ ones) (two ∷ twos) (first ∷ firsts) (second ∷ seconds) a b c d =
       let step = step_same text one two first second a.0 b.0 c.0 d.0 in let rest = steps_same texts ones twos firsts seconds a.1 b.1 c.1 d.1 in λ i. step i ∷ rest i
+  steps_same _ _ _ _ _ a b c d = absurd (assumption)
 
 pub graph_same : (graph : GraphText) (t u : Tree) (g h : Graph) → IsTree graph t → IsTree graph u → IsGraphOf t g → IsGraphOf u h → g ≡ h
 graph_same graph t u g h a b c d =
@@ -86,15 +73,9 @@ graph_same graph t u g h a b c d =
     let items_same : g.items ≡ h.items = c.items ∙ same.items ∙ sym d.items in
     let tags_same : g.tags ≡ h.tags = c.tags ∙ same.tags ∙ sym d.tags in
     let steps = steps_same t u g h same tags_same graph.steps t.steps.items u.steps.items g.steps h.steps a.steps b.steps c.steps d.steps in
-    let item_puts : g.environment_item_puts ≡ h.environment_item_puts =
-    c.environment_item_puts ∙ each_same is_environment_item_put environment_item_tie environment_item_told t.relations.items u.relations.items same.ties (names_in g.items)
-    ∙ (λ i. each_of is_environment_item_put u.relations.items (names_in (items_same i))) ∙ sym d.environment_item_puts in
-    let tag_puts : g.environment_tag_puts ≡ h.environment_tag_puts =
-    c.environment_tag_puts ∙ each_same is_environment_tag_put environment_tag_tie environment_tag_told t.relations.items u.relations.items same.ties (names_in g.tags)
-    ∙ (λ i. each_of is_environment_tag_put u.relations.items (names_in (tags_same i))) ∙ sym d.environment_tag_puts in
-    let gets : g.environment_gets ≡ h.environment_gets =
-    c.environment_gets ∙ each_same is_environment_get environment_get_tie environment_get_told t.relations.items u.relations.items same.ties (names_in g.items)
-    ∙ (λ i. each_of is_environment_get u.relations.items (names_in (items_same i))) ∙ sym d.environment_gets in
+    let item_puts = c.environment_item_puts ∙ each_same t u same is_environment_item_put (λ name it. grind arith) (names_in g.items) (names_in h.items) (ap names_in items_same) ∙ sym d.environment_item_puts in
+    let tag_puts = c.environment_tag_puts ∙ each_same t u same is_environment_tag_put (λ name it. grind arith) (names_in g.tags) (names_in h.tags) (ap names_in tags_same) ∙ sym d.environment_tag_puts in
+    let gets = c.environment_gets ∙ each_same t u same is_environment_get (λ name it. grind arith) (names_in g.items) (names_in h.items) (ap names_in items_same) ∙ sym d.environment_gets in
     λ i. record {
       items = items_same i;
       tags = tags_same i;

@@ -1,20 +1,18 @@
 -- What holds of the facts of a list, and of the elements of two sets.
-use Rattle.std.proofs.Common.{◌≡◌, ◌⊎◌, Bool, true, false, ◌||◌, List, [], ◌∷◌, inl, inr, refl, subst}
+use Rattle.std.proofs.Common.{◌≡◌, ◌⊎◌, Bool, true, ◌||◌, List, [], ◌∷◌, inl, inr, subst, arith}
 use Rattle.std.specs.List.{AllByRecursion}
 use Rattle.std.proofs.lemmas.Bool.{false≢true}
 use Rattle.terms.specs.Facts.{Fact}
 use Rattle.terms.specs.Sets.{Facts, is_fact, among, OneFact}
 
 pub either : (a b : Bool) → (a || b) ≡ true → (a ≡ true) ⊎ (b ≡ true)
-either true b holds = inl refl
-either false b holds = inr holds
+either a b holds = grind arith
 
 pub or_left : (a b : Bool) → a ≡ true → (a || b) ≡ true
 or_left a b holds = cc
 
 pub or_right : (a b : Bool) → b ≡ true → (a || b) ≡ true
-or_right true b holds = refl
-or_right false b holds = holds
+or_right a b holds = grind arith
 
 -- each fact of the first set is in the second
 abbrev pub Within : Facts → Facts → Type 0

@@ -1,6 +1,7 @@
 -- Declarations, one after another.
 use Rattle.std.proofs.Common.{◌≡◌, ◌<◌, ℕ, List, [], ◌∷◌, ◌++◌, length, take, drop, get_or, refl, sym, ap, subst, ◌∙◌, ◌+◌}
 use Rattle.std.proofs.lemmas.List.{take_more, map-append}
+use Rattle.std.proofs.lemmas.List.{append-nil}
 use Rattle.steptree.specs.declared.step.Name.{Name}
 use Rattle.steptree.specs.Names.{Text, names_in}
 use Rattle.steptree.specs.Nameable.{Collection}
@@ -14,7 +15,7 @@ use Rattle.graph.specs.Numbered.{names_numbered}
 use Rattle.graph.specs.Placed.{IsFirst}
 use Rattle.graph.specs.Tree.{items_of, tags_of, text_of}
 use Rattle.graph.proofs.FirstFaults.{in_front, empty_in_front}
-use Rattle.graph.proofs.Lists.{opened, past, with_none}
+use Rattle.graph.proofs.Lists.{opened, past}
 use Rattle.graph.proofs.Seen.{items_named}
 
 items_of_both : (one two : List Declaration) → items_of (one ++ two) ≡ items_of one ++ items_of two
@@ -61,7 +62,7 @@ module _ (ds : List Declaration) where
         let more : items_of (take (index + 1) ds) ≡ items_of (take index ds) ++ of_name name components ∷ [] =
         next_items ∙ ap (λ (d : Declaration). items_of (take index ds) ++ items_of (d ∷ [])) it in
         let same : tags_of (take (index + 1) ds) ≡ tags_of (take index ds) =
-        next_tags ∙ ap (λ (d : Declaration). tags_of (take index ds) ++ tags_of (d ∷ [])) it ∙ with_none (tags_of (take index ds)) in
+        next_tags ∙ ap (λ (d : Declaration). tags_of (take index ds) ++ tags_of (d ∷ [])) it ∙ append-nil (tags_of (take index ds)) in
         let names = their_names (items_of (take index ds)) items so.items_so_far in
         let rest : declaration_faults (names_in (items_of (take index ds)) ++ text_of name ∷ []) (names_in (tags_of (take index ds))) (drop (index + 1) ds)
         ≡ declaration_faults (names_in (items_of (take (index + 1) ds))) (names_in (tags_of (take (index + 1) ds))) (drop (index + 1) ds) =
@@ -84,7 +85,7 @@ module _ (ds : List Declaration) where
         let more : tags_of (take (index + 1) ds) ≡ tags_of (take index ds) ++ of_name name components ∷ [] =
         next_tags ∙ ap (λ (d : Declaration). tags_of (take index ds) ++ tags_of (d ∷ [])) it in
         let same : items_of (take (index + 1) ds) ≡ items_of (take index ds) =
-        next_items ∙ ap (λ (d : Declaration). items_of (take index ds) ++ items_of (d ∷ [])) it ∙ with_none (items_of (take index ds)) in
+        next_items ∙ ap (λ (d : Declaration). items_of (take index ds) ++ items_of (d ∷ [])) it ∙ append-nil (items_of (take index ds)) in
         let names = their_names (tags_of (take index ds)) tags so.tags_so_far in
         let rest : declaration_faults (names_in (items_of (take index ds))) (names_in (tags_of (take index ds)) ++ text_of name ∷ []) (drop (index + 1) ds)
         ≡ declaration_faults (names_in (items_of (take (index + 1) ds))) (names_in (tags_of (take (index + 1) ds))) (drop (index + 1) ds) =

@@ -1,17 +1,13 @@
 -- The names of entries.
-use Rattle.std.proofs.Common.{◌≡◌, ℕ, zero, suc, Bool, true, false, cond, if◌then◌else◌, List, [], ◌∷◌, map, Some, None, Option, refl, sym, ap, subst, ◌∙◌, slice_get}
+use Rattle.std.proofs.Common.{◌≡◌, ℕ, zero, suc, false, List, [], ◌∷◌, map, Some, None, refl, sym, ap, subst, ◌∙◌, slice_get, arith}
 use Rattle.std.specs.Prelude.{option_map}
 use Rattle.std.specs.List.{IsDistinct, AllByRecursion}
 use Rattle.std.specs.Str.{bytes_eq}
 use Rattle.std.specs.Map.{keys_of, lookup}
-use Rattle.steptree.specs.Names.{Text, is_text, place_of}
+use Rattle.steptree.specs.Names.{Text, place_of}
 use Rattle.graph.specs.Numbered.{names_numbered, found}
 use Rattle.graph.proofs.Texts.{texts_are_bytes, same_both_ways}
 use Rattle.graph.proofs.Places.{own_place}
-
-unmapped : (place : Option ℕ) → option_map suc place ≡ None → place ≡ None
-unmapped None none = refl
-unmapped (Some place) none = absurd (cc)
 
 module _ {K : Type 0} (text : K → Text) where
   all_names : (key : K) (keys : List K) → AllByRecursion (λ other. bytes_eq (text key) (text other) ≡ false) keys → AllByRecursion (λ other. bytes_eq (text key) other ≡ false) (map text keys)
@@ -48,34 +44,9 @@ module _ {K V : Type 0} (text : K → Text) where
   -- the lookup of a text that is no name finds nothing
   pub absent : (entries : List (K × V)) (name : K) → place_of (names_numbered (seen entries)) (text name) ≡ None → lookup (λ key. bytes_eq (text name) (text key)) entries ≡ None
   absent [] name none = refl
-  absent (entry ∷ entries) name none = by (is_text (text entry.0) (text name)) refl (absent entries name)
-    where
-      by : (same : Bool) → is_text (text entry.0) (text name) ≡ same
-          → (place_of (names_numbered (seen entries)) (text name) ≡ None → lookup (λ key. bytes_eq (text name) (text key)) entries ≡ None)
-          → lookup (λ key. bytes_eq (text name) (text key)) (entry ∷ entries) ≡ None
-      by true same others =
-          let e = ap (λ (b : Bool). if b then Some zero else option_map suc (place_of (names_numbered (seen entries)) (text name))) same in
-          absurd (cc)
-      by false same others =
-          let test : bytes_eq (text name) (text entry.0) ≡ false = sym (texts_are_bytes (text name) (text entry.0)) ∙ same_both_ways (text name) (text entry.0) ∙ same in
-          let e : place_of (names_numbered (seen (entry ∷ entries))) (text name) ≡ option_map suc (place_of (names_numbered (seen entries)) (text name)) =
-          ap (λ (b : Bool). if b then Some zero else option_map suc (place_of (names_numbered (seen entries)) (text name))) same in
-          ap (λ (b : Bool). cond b (Some entry.1) (lookup (λ key. bytes_eq (text name) (text key)) entries)) test ∙ others (unmapped _ (sym e ∙ none))
+  absent (entry ∷ entries) name none = grind (arith, texts_are_bytes (text name) (text entry.0), same_both_ways (text name) (text entry.0), absent entries name)
 
   -- a lookup finds the value with that name
   pub looked_up : (entries : List (K × V)) (name : Text) → lookup (λ key. bytes_eq name (text key)) entries ≡ found (seen entries) name
   looked_up [] name = refl
-  looked_up (entry ∷ entries) name = by (is_text (text entry.0) name) refl (looked_up entries name)
-    where
-      by : (same : Bool) → is_text (text entry.0) name ≡ same → lookup (λ key. bytes_eq name (text key)) entries ≡ found (seen entries) name
-          → lookup (λ key. bytes_eq name (text key)) (entry ∷ entries) ≡ found (seen (entry ∷ entries)) name
-      by same is others =
-          let test : bytes_eq name (text entry.0) ≡ same = sym (texts_are_bytes name (text entry.0)) ∙ same_both_ways name (text entry.0) ∙ is in
-          ap (λ (b : Bool). cond b (Some entry.1) (lookup (λ key. bytes_eq name (text key)) entries)) test
-          ∙ at same others
-          ∙ sym (ap (λ (b : Bool). if b then Some entry.1 else found (seen entries) name) is)
-        where
-          at : (b : Bool) → lookup (λ key. bytes_eq name (text key)) entries ≡ found (seen entries) name
-              → cond b (Some entry.1) (lookup (λ key. bytes_eq name (text key)) entries) ≡ (if b then Some entry.1 else found (seen entries) name)
-          at true e = refl
-          at false e = e
+  looked_up (entry ∷ entries) name = grind (arith, texts_are_bytes name (text entry.0), same_both_ways name (text entry.0), looked_up entries name)

@@ -1,5 +1,6 @@
 -- What holds of a tree without a fault: its names differ, and its steps have the right numbers of parameters.
-use Rattle.std.proofs.Common.{◌≡◌, ℕ, zero, suc, Bool, true, false, if◌then◌else◌, List, [], ◌∷◌, ◌++◌, Option, Some, None, map, refl, sym, ap, subst, ◌∙◌, append_assoc, slice_get}
+use Rattle.std.proofs.Common.{◌≡◌, ℕ, zero, suc, Bool, false, if◌then◌else◌, List, [], ◌∷◌, ◌++◌, Option, Some, None, map, refl, sym, subst, ◌∙◌, append_assoc, slice_get, arith}
+use Rattle.std.proofs.lemmas.List.{append-nil}
 use Rattle.std.specs.Prelude.{option_map, is_some}
 use Rattle.std.specs.List.{IsDistinct}
 use Rattle.std.specs.Str.{bytes_eq}
@@ -16,7 +17,7 @@ use Rattle.graph.specs.declared.fault.GraphError.TheVariants.{Redeclared, StepTw
 use Rattle.graph.specs.Faults.{At, fault_if, or_else, has, repeated, declaration_faults, relation_faults, step_faults, arity_faults, tree_faults}
 use Rattle.graph.specs.Tree.{text_of, items_of, tags_of, step_names, prescriber_of}
 use Rattle.graph.proofs.Texts.{texts_are_bytes}
-use Rattle.graph.proofs.PrintedApart.{each_of_both}
+use Rattle.graph.proofs.Lists.{each_of_both}
 
 -- ---- lists that are empty
 
@@ -28,28 +29,20 @@ pub second_empty : {X : Type 0} (xs ys : List X) → xs ++ ys ≡ [] → ys ≡ 
 second_empty [] ys none = none
 second_empty (x ∷ xs) ys none = absurd (cc)
 
-no_first : (xs ys : List At) → or_else xs ys ≡ [] → xs ≡ []
-no_first [] ys none = refl
-no_first (x ∷ xs) ys none = absurd (cc)
-
-no_second : (xs ys : List At) → or_else xs ys ≡ [] → ys ≡ []
-no_second [] ys none = none
-no_second (x ∷ xs) ys none = absurd (cc)
+-- of two lists of which the second counts only if the first is empty
+pub first_none : (xs ys : List At) → or_else xs ys ≡ [] → (xs ≡ []) × (ys ≡ [])
+first_none xs ys none = grind arith
 
 pub not_so : (holds : Bool) (error : GraphError) (position : ℕ) → fault_if holds error position ≡ [] → holds ≡ false
-not_so false error position none = refl
-not_so true error position none = absurd (cc)
+not_so holds error position none = grind arith
 
 -- ---- names that differ
 
 not_there : (place : Option ℕ) → is_some place ≡ false → place ≡ None
-not_there None none = refl
-not_there (Some place) none = absurd (cc)
+not_there place none = grind arith
 
 not_first : (same : Bool) (rest : Option ℕ) → (if same then Some zero else option_map suc rest) ≡ None → (same ≡ false) × (rest ≡ None)
-not_first true rest none = absurd (cc)
-not_first false None none = (refl, refl)
-not_first false (Some place) none = absurd (cc)
+not_first same rest none = grind arith
 
 one_more : (names : List Text) (name : Text) → IsDistinct bytes_eq names → place_of names name ≡ None → IsDistinct bytes_eq (names ++ name ∷ [])
 unfolding IsDistinct
@@ -68,11 +61,7 @@ behind : (names : List Text) (name : Text) (more : List Text) → IsDistinct byt
 behind names name more distinct = subst (IsDistinct bytes_eq) (append_assoc names (name ∷ []) more) distinct
 
 at_end : (names : List Text) → IsDistinct bytes_eq names → IsDistinct bytes_eq (names ++ [])
-at_end names distinct = subst (IsDistinct bytes_eq) (sym (nothing names)) distinct
-  where
-    nothing : (l : List Text) → l ++ [] ≡ l
-    nothing [] = refl
-    nothing (x ∷ l) = ap (λ m. x ∷ m) (nothing l)
+at_end names distinct = subst (IsDistinct bytes_eq) (sym (append-nil names)) distinct
 
 abbrev Apart : List Text → List Text → List Declaration → Type 0
 Apart items tags ds = IsDistinct bytes_eq (items ++ names_in (items_of ds)) × IsDistinct bytes_eq (tags ++ names_in (tags_of ds))
@@ -80,12 +69,10 @@ Apart items tags ds = IsDistinct bytes_eq (items ++ names_in (items_of ds)) × I
 declared_apart : (items tags : List Text) (ds : List Declaration) → declaration_faults items tags ds ≡ [] → IsDistinct bytes_eq items → IsDistinct bytes_eq tags → Apart items tags ds
 declared_apart items tags [] none one two = (at_end items one, at_end tags two)
 declared_apart items tags (declared.Item name components ∷ more) none one two =
-    let first = first_empty (fault_if (has items name) Redeclared name.place) _ none in
-    let rest = declared_apart (items ++ text_of name ∷ []) tags more (second_empty (fault_if (has items name) Redeclared name.place) _ none) (new_name items name Redeclared one first) two in
+    let rest = declared_apart (items ++ text_of name ∷ []) tags more (search second_empty) (new_name items name Redeclared one (search first_empty)) two in
     (behind items (text_of name) (names_in (items_of more)) rest.0, rest.1)
 declared_apart items tags (declared.Tag name components ∷ more) none one two =
-    let first = first_empty (fault_if (has tags name) Redeclared name.place) _ none in
-    let rest = declared_apart items (tags ++ text_of name ∷ []) more (second_empty (fault_if (has tags name) Redeclared name.place) _ none) one (new_name tags name Redeclared two first) in
+    let rest = declared_apart items (tags ++ text_of name ∷ []) more (search second_empty) one (new_name tags name Redeclared two (search first_empty)) in
     (rest.0, behind tags (text_of name) (names_in (tags_of more)) rest.1)
 
 -- ---- names in a step
@@ -93,8 +80,7 @@ declared_apart items tags (declared.Tag name components ∷ more) none one two =
 names_apart_behind : (before : List Text) (names : List Name) → repeated before names ≡ [] → IsDistinct bytes_eq before → IsDistinct bytes_eq (before ++ map text_of names)
 names_apart_behind before [] none distinct = at_end before distinct
 names_apart_behind before (name ∷ names) none distinct =
-    let first = first_empty (fault_if (has before name) Redeclared name.place) _ none in
-    let rest = names_apart_behind (before ++ text_of name ∷ []) names (second_empty (fault_if (has before name) Redeclared name.place) _ none) (new_name before name Redeclared distinct first) in
+    let rest = names_apart_behind (before ++ text_of name ∷ []) names (search second_empty) (new_name before name Redeclared distinct (search first_empty)) in
     behind before (text_of name) (map text_of names) rest
 
 pub names_in_step_apart : (names : List Name) → repeated [] names ≡ [] → IsDistinct bytes_eq (map text_of names)
@@ -122,8 +108,8 @@ module _ (tags : List Collection) (relations : List Relation) where
   steps_apart : (before : List Text) (steps : List NamedStep) → step_faults tags relations before steps ≡ [] → IsDistinct bytes_eq before → IsDistinct bytes_eq (before ++ step_names steps)
   steps_apart before [] none distinct = at_end before distinct
   steps_apart before (step ∷ more) none distinct =
-      let once = no_first (fault_if (has before step.name) StepTwice step.name.place) _ (at_head before step more none) in
-      behind before (text_of step.name) (step_names more) (steps_apart (before ++ text_of step.name ∷ []) more (later before step more none) (new_name before step.name StepTwice distinct once))
+      let once = first_none (fault_if (has before step.name) StepTwice step.name.place) _ (at_head before step more none) in
+      behind before (text_of step.name) (step_names more) (steps_apart (before ++ text_of step.name ∷ []) more (later before step more none) (new_name before step.name StepTwice distinct once.0))
 
   right_arity : (before : List Text) (steps : List NamedStep) (number : ℕ) (step : NamedStep) → step_faults tags relations before steps ≡ [] → slice_get steps number ≡ Some step
       → arity_faults tags (prescriber_of relations (text_of step.name)) step ≡ []
@@ -131,7 +117,7 @@ module _ (tags : List Collection) (relations : List Relation) where
   right_arity before (first ∷ more) zero step none there =
       let same : first ≡ step = cc in
       subst (λ (s : NamedStep). arity_faults tags (prescriber_of relations (text_of s.name)) s ≡ []) same
-      (no_second (fault_if (has before first.name) StepTwice first.name.place) _ (at_head before first more none))
+      (first_none (fault_if (has before first.name) StepTwice first.name.place) _ (at_head before first more none)).1
   right_arity before (first ∷ more) (suc number) step none there = right_arity (before ++ text_of first.name ∷ []) more number step (later before first more none) there
 
 -- ---- trees

@@ -4,7 +4,7 @@ use Rattle.std.specs.Prelude.{Result, Ok, Err, IfErr, IsErrAnd, MatchResult}
 use Rattle.graph.specs.declared.fault.GraphError.{GraphError}
 use Rattle.graph.specs.declared.fault.PlacedFault.{PlacedFault}
 use Rattle.graph.specs.Faults.{At, fault_if}
-use Rattle.graph.specs.Placed.{IsFirst, Reports}
+use Rattle.graph.specs.Placed.{IsFirst}
 
 pub empty_in_front : (xs ys : List At) → xs ≡ [] → xs ++ ys ≡ ys
 empty_in_front xs ys none = ap (λ l. l ++ ys) none
@@ -19,11 +19,6 @@ in_front (x ∷ front) others fault first = first
 pub behind_none : (front others : List At) (fault : PlacedFault) → front ≡ [] → IsFirst others fault → IsFirst (front ++ others) fault
 behind_none front others fault none first = subst (λ (l : List At). IsFirst l fault) (sym (empty_in_front front others none)) first
 
--- a fault that is passed on
-pub passed_on : {X : Type 0} (faults : List At) (result : Result X PlacedFault) (fault : PlacedFault) → IsErrAnd result (λ other. other ≡ fault) → IsFirst faults fault → Reports faults result
-passed_on faults (Ok value) fault is first = absurd is
-passed_on faults (Err other) fault is first = subst (IsFirst faults) (sym is) first
-
 -- a fault that is there, and one that is not
 pub there : (holds : Bool) (error : GraphError) (position : ℕ) → holds ≡ true → fault_if holds error position ≡ (error, position) ∷ []
 there holds error position is = ap (λ (b : Bool). fault_if b error position) is
@@ -31,12 +26,7 @@ there holds error position is = ap (λ (b : Bool). fault_if b error position) is
 pub nothing : (holds : Bool) (error : GraphError) (position : ℕ) → holds ≡ false → fault_if holds error position ≡ []
 nothing holds error position is = ap (λ (b : Bool). fault_if b error position) is
 
--- the same, whatever is known of a value
-pub relation_passed_on : {X : Type 0} (P : X → Type 0) (faults : List At) (result : Result X PlacedFault) (fault : PlacedFault) → IsErrAnd result (λ other. other ≡ fault) → IsFirst faults fault
-    → MatchResult result P (IsFirst faults)
-relation_passed_on P faults (Ok value) fault is first = absurd is
-relation_passed_on P faults (Err other) fault is first = subst (IsFirst faults) (sym is) first
-
+-- a fault that is passed on, whatever is known of a value
 pub fault_passed_on : {X : Type 0} (P : X → Type 0) (Q : PlacedFault → Type 0) (result : Result X PlacedFault) (fault : PlacedFault) → IsErrAnd result (λ other. other ≡ fault) → Q fault → MatchResult result P Q
 fault_passed_on P Q (Ok value) fault is it = absurd is
 fault_passed_on P Q (Err other) fault is it = subst Q (sym is) it

@@ -40,16 +40,12 @@ stated_is_of g X event (bad instance kind) it = it.0.of_graph
 given_is_stated : (g : Graph) (event : Event) (fact : Fact) → IsGiven g event fact → among (event_facts event) fact ≡ true
 given_is_stated g event (tag name) it = it.1
 given_is_stated g event (item address value Env) it = it
-given_is_stated g event (item address value (By instance number)) it = absurd it
-given_is_stated g event (done instance) it = absurd it
-given_is_stated g event (bad instance kind) it = absurd it
+given_is_stated _ _ _ it = absurd (assumption)
 
 given_is_of_environment : (g : Graph) (event : Event) (fact : Fact) → IsGiven g event fact → IsOfEnvironment fact
 given_is_of_environment g event (tag name) it = tt
 given_is_of_environment g event (item address value Env) it = tt
-given_is_of_environment g event (item address value (By instance number)) it = absurd it
-given_is_of_environment g event (done instance) it = absurd it
-given_is_of_environment g event (bad instance kind) it = absurd it
+given_is_of_environment _ _ _ it = absurd (assumption)
 
 prescribed_within : (g : Graph) (X Y : Facts) → Within X Y → (instance : Inst) → IsPrescribed g X instance → IsPrescribed g Y instance
 prescribed_within g X Y within instance it = (it.0, within (tag it.0) it.1, it.2)
@@ -80,13 +76,7 @@ module _ (told : OneFact) (g : Graph) (X : Facts) where
   given_by event fits = each_among told (IsGiven g event) (environment_facts event) (each_given event fits)
 
 one_stop : (event : Event) (i j : Inst) (k l : FaultKind) → event ≡ Stopped i k → event ≡ Stopped j l → (i ≡ j) × (k ≡ l)
-one_stop event i j k l one two = (instances, kinds)
-  where
-    instances : i ≡ j
-    instances = cc
-
-    kinds : k ≡ l
-    kinds = cc
+one_stop event i j k l one two = (cc, cc)
 
 stop_ends_none : (event : Event) (instance : Inst) (kind : FaultKind) → event ≡ Stopped instance kind → among (event_facts event) (done instance) ≡ false
 stop_ends_none event instance kind same = subst (λ (it : Event). among (event_facts it) (done instance) ≡ false) (sym same) refl

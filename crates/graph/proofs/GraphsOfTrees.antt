@@ -1,74 +1,26 @@
 -- The graph of a small tree without a fault is a graph.
-use Rattle.std.proofs.Common.{◌≡◌, ◌+◌, ℕ, zero, suc, Bool, true, false, not, if◌then◌else◌, ◌==◌, List, [], ◌∷◌, ◌++◌, length, Option, Some, None, refl, sym, ap, subst, ◌∙◌, slice_get, arith, length-append}
-use Rattle.std.specs.Prelude.{option_map}
-use Rattle.std.proofs.lemmas.Bool.{eqb-true}
+use Rattle.std.proofs.Common.{◌≡◌, ◌+◌, ℕ, Bool, false, not, ◌==◌, List, [], ◌++◌, length, Option, Some, sym, ap, subst, ◌∙◌, slice_get, arith, length-append}
+use Rattle.std.proofs.lemmas.Bool.Decides.{nat_tests}
+use Rattle.std.proofs.lemmas.List.{length-map}
 use Rattle.steptree.specs.declared.step.Name.{Name}
 use Rattle.steptree.specs.declared.step.Step.{Step as NamedStep}
-use Rattle.steptree.specs.Names.{Text, is_text, place_of, names_of, names_in}
+use Rattle.steptree.specs.Names.{Text, place_of, names_of, names_in}
 use Rattle.steptree.specs.Nameable.{Collection, Nameable}
 use Rattle.steptree.specs.Sheet.{BodyKeepsTo}
 use Rattle.steptree.specs.Limits.{AreFew}
 use Rattle.syntax.specs.declared.tree.Relation.{Relation}
 use Rattle.syntax.specs.declared.tree.Tree.{Tree}
-use Rattle.syntax.specs.Tree.{AreAll}
 use Rattle.graph.specs.declared.fault.GraphError.TheVariants.{Arity}
-use Rattle.graph.specs.Faults.{arity_faults, fault_if, is_other, components_of, tree_faults}
+use Rattle.graph.specs.Faults.{arity_faults, fault_if, is_other, tree_faults}
 use Rattle.graph.specs.Graph.{Step, Graph, sheet_of, IsGraph, IsOf, IsOfGraph}
-use Rattle.graph.specs.Small.{IsSmall}
+use Rattle.graph.specs.Small.{IsSmall, IsSmallStep}
 use Rattle.graph.specs.Tree.{text_of, items_of, tags_of, each_of, prescriber_of, is_environment_item_put, is_environment_tag_put, is_environment_get, sheet_in, IsStepOf, IsGraphOf}
 use Rattle.graph.proofs.Faultless.{no_arity, not_so}
-use Rattle.graph.proofs.Rising.{as_many_mapped}
-use Rattle.graph.proofs.Sheets.{small_step}
-use Rattle.graph.proofs.SmallTrees.{as_many}
-
--- ---- tags by their number
-
--- the collection whose number is a name's place has that name's components
-found_collection : (tags : List Collection) (tag : Text) (number : ℕ) → place_of (names_in tags) tag ≡ Some number → (it : Collection) × (slice_get tags number ≡ Some it) × (components_of tags tag ≡ Some it.components)
-found_collection [] tag number there = absurd (cc)
-found_collection (first ∷ tags) tag number there = by (is_text first.name tag) number there (found_collection tags tag)
-  where
-    later : (rest : Option ℕ) (n : ℕ) → option_map suc rest ≡ Some (suc n) → rest ≡ Some n
-    later None n e = absurd (cc)
-    later (Some k) n e =
-        let f : suc k ≡ suc n = cc in
-        ap (λ (m : ℕ). Some m) (omega arith)
-
-    not_zero : (rest : Option ℕ) → option_map suc rest ≡ Some zero → ⊥
-    not_zero None e = cc
-    not_zero (Some k) e =
-        let f : suc k ≡ zero = cc in
-        omega arith
-
-    by : (same : Bool) (n : ℕ) → (if same then Some zero else option_map suc (place_of (names_in tags) tag)) ≡ Some n
-        → ((m : ℕ) → place_of (names_in tags) tag ≡ Some m → (it : Collection) × (slice_get tags m ≡ Some it) × (components_of tags tag ≡ Some it.components))
-        → (it : Collection) × (slice_get (first ∷ tags) n ≡ Some it) × ((if same then Some first.components else components_of tags tag) ≡ Some it.components)
-    by true n e deeper =
-        let f : zero ≡ n = cc in
-        (first, ap (slice_get (first ∷ tags)) (sym f), refl)
-    by false zero e deeper = absurd (not_zero (place_of (names_in tags) tag) e)
-    by false (suc n) e deeper = deeper n (later (place_of (names_in tags) tag) n e)
+use Rattle.graph.proofs.Lists.{as_many, each_found, matched_at}
+use Rattle.graph.proofs.Checking.{found_collection}
 
 same_count : (one two : ℕ) → not (one == two) ≡ false → one ≡ two
-same_count one two same = eqb-true one two (back (one == two) same)
-  where
-    back : (b : Bool) → not b ≡ false → b ≡ true
-    back true e = refl
-    back false e = absurd (cc)
-
--- ---- steps by their number
-
-abbrev StepAt : Tree → Graph → List NamedStep → ℕ → Step → Type 0
-StepAt tree g them number step = (named : NamedStep) × (slice_get them number ≡ Some named) × IsStepOf tree g named step
-
-step_at : (tree : Tree) (g : Graph) (them : List NamedStep) (steps : List Step) (number : ℕ) (step : Step) → AreAll (IsStepOf tree g) them steps → slice_get steps number ≡ Some step → StepAt tree g them number step
-step_at tree g [] [] number step all there = absurd (cc)
-step_at tree g [] (first ∷ steps) number step all there = absurd all
-step_at tree g (named ∷ them) [] number step all there = absurd all
-step_at tree g (named ∷ them) (first ∷ steps) zero step all there =
-    let same : first ≡ step = cc in
-    (named, refl, subst (IsStepOf tree g named) same all.0)
-step_at tree g (named ∷ them) (first ∷ steps) (suc number) step all there = step_at tree g them steps number step all.1 there
+same_count one two same = grind (arith, nat_tests)
 
 -- ---- the graph
 
@@ -82,7 +34,7 @@ module _ (tree : Tree) (g : Graph) (small : IsSmall tree) (none : tree_faults tr
   -- as many marks as there are names in the collections
   as_many_marks : (is_so : Text → Relation → Bool) (collections : List Collection) (marks : List Bool) → marks ≡ each_of is_so tree.relations.items (names_in collections) → length marks ≡ length collections
   as_many_marks is_so collections marks same =
-      ap (λ (l : List Bool). length l) same ∙ as_many_mapped _ (names_in collections) ∙ as_many_mapped (λ (collection : Collection). collection.name) collections
+      ap (λ (l : List Bool). length l) same ∙ length-map (names_in collections) _ ∙ length-map collections (λ (collection : Collection). collection.name)
 
   prescribed_as_declared : (number : ℕ) (named : NamedStep) (tag : Text) (place : ℕ) → slice_get tree.steps.items number ≡ Some named → prescriber_of tree.relations.items (text_of named.name) ≡ Some tag
       → place_of (names_in tags) tag ≡ Some place → IsOf tags place (length named.parameters.items)
@@ -94,13 +46,13 @@ module _ (tree : Tree) (g : Graph) (small : IsSmall tree) (none : tree_faults tr
 
   its_step : (number : ℕ) (named : NamedStep) (step : Step) → slice_get tree.steps.items number ≡ Some named → IsStepOf tree g named step → IsOfGraph g step
   its_step number named step there means =
-      let few = small_step tree.steps.items number named there small.steps in
+      let few = each_found IsSmallStep tree.steps.items number named there small.steps in
       let tag = means.prescriber.0 in
       let first : prescriber_of tree.relations.items (text_of named.name) ≡ Some tag = ap (prescriber_of tree.relations.items) (sym means.name) ∙ means.prescriber.1 in
       let at : place_of (names_in tags) tag ≡ Some step.prescriber = ap (λ (l : List Collection). place_of (names_in l) tag) (sym is.tags) ∙ means.prescriber.2 in
       let count : length step.names ≡ length (names_of named) = ap (λ (l : List Text). length l) means.names in
       let sum : length (names_of named) ≡ length named.parameters.items + length named.variables.items =
-      as_many_mapped (λ (name : Name). name.text.now) (named.parameters.items ++ named.variables.items) ∙ length-append named.parameters.items named.variables.items in
+      length-map (named.parameters.items ++ named.variables.items) (λ (name : Name). name.text.now) ∙ length-append named.parameters.items named.variables.items in
       let parameters : step.parameters ≡ length named.parameters.items = means.parameters in
       let same : sheet_in tree named ≡ sheet_of g step = λ i. record { items = sym is.items i; tags = sym is.tags i; reads = sym means.reads i; item_puts = sym means.item_puts i; tag_puts = sym means.tag_puts i } in
       record {
@@ -120,7 +72,7 @@ module _ (tree : Tree) (g : Graph) (small : IsSmall tree) (none : tree_faults tr
     tags = subst AreFew (sym is.tags) small.tags;
     few = omega (arith, as_many (IsStepOf tree g) tree.steps.items g.steps is.steps, small.few);
     steps = λ number step there.
-        let at = step_at tree g tree.steps.items g.steps number step is.steps there in
+        let at = matched_at (IsStepOf tree g) tree.steps.items g.steps number step is.steps there in
         its_step number at.0 step at.1 at.2;
     each_item = as_many_marks is_environment_item_put g.items g.environment_item_puts is.environment_item_puts;
     each_tag = as_many_marks is_environment_tag_put g.tags g.environment_tag_puts is.environment_tag_puts;

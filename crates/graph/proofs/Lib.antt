@@ -1,8 +1,7 @@
-mod AlikeFaults
 mod AlikeGraphs
 mod AlikeBodies
-mod AlikeSheets
 mod AlikeTrees
+mod Bare
 mod Among
 mod BodiesWithoutFault
 mod BodyFaults
@@ -62,7 +61,6 @@ mod Seen
 mod Sheets
 mod AsciiTexts
 mod Texts
-mod Ties
 mod TreeFaultKinds
 mod Unmarked
 mod ParsedTexts

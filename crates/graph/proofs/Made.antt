@@ -1,14 +1,14 @@
 -- The graph that is made of a tree without a fault: it satisfies the invariant, and it is the tree's graph.
-use Rattle.std.proofs.Common.{◌≡◌, ◌<◌, ◌≤◌, ◌^◌, ℕ, zero, suc, Bool, List, [], ◌∷◌, length, map, get_or, Some, refl, sym, ap, ◌∙◌, slice_get, arith}
+use Rattle.std.proofs.Common.{◌≡◌, ◌<◌, ◌≤◌, ◌^◌, ℕ, Bool, List, [], ◌∷◌, length, map, sym, ap, ◌∙◌, arith}
+use Rattle.std.proofs.lemmas.List.{length-map, get_or-map}
 use Rattle.std.specs.Prelude.{Vec}
 use Rattle.std.specs.List.{AllByRecursion}
 use Rattle.std.specs.declared.alloc.Global.{Global}
-use Rattle.std.proofs.lemmas.Option.{slice_get_within}
+use Rattle.std.proofs.lemmas.Option.{slice_get_within, get_or_from_slice_get}
 use Rattle.terms.specs.declared.name.StepCollection.{StepCollection}
 use Rattle.steptree.specs.declared.step.Step.{Step as NamedStep}
 use Rattle.steptree.specs.Names.{Text, place_of, names_in}
 use Rattle.steptree.specs.Nameable.{Collection}
-use Rattle.syntax.specs.declared.tree.Relation.{Relation}
 use Rattle.syntax.specs.declared.tree.Tree.{Tree}
 use Rattle.syntax.specs.Tree.{AreAll}
 use Rattle.graph.specs.declared.graph.Graph.TheInside.{Inside}
@@ -30,26 +30,19 @@ use Rattle.graph.specs.Tree.{text_of, items_of, tags_of, each_of, prescriber_of,
 use Rattle.graph.proofs.Faultless.{items_apart, tags_apart}
 use Rattle.graph.proofs.GraphsOfTrees.{graph_is}
 use Rattle.graph.proofs.Marks.{at_place}
-use Rattle.graph.proofs.Rising.{as_many_mapped}
 use Rattle.graph.proofs.Sheets.{row_told}
+use Rattle.graph.proofs.Lists.{as_many}
 
 -- ---- checked steps by their number
 
-as_many_checked : (tree : Tree) (steps : List NamedStep) (them : List (Text × Prescribed)) → AreCheckedSteps tree steps them → length them ≡ length steps
-as_many_checked tree [] [] all = refl
-as_many_checked tree [] (entry ∷ them) all = absurd all
-as_many_checked tree (step ∷ steps) [] all = absurd all
-as_many_checked tree (step ∷ steps) (entry ∷ them) all = ap suc (as_many_checked tree steps them all.1)
-
 pub all_prescribed : (tree : Tree) (steps : List NamedStep) (them : List (Text × Prescribed)) (tags : ℕ) → tags ≡ length (tags_of tree.declarations.items) → AreCheckedSteps tree steps them → AllByRecursion (λ entry. entry.1.prescriber.0 < tags) them
 all_prescribed tree [] [] tags many all = tt
-all_prescribed tree [] (entry ∷ them) tags many all = absurd all
-all_prescribed tree (step ∷ steps) [] tags many all = absurd all
 all_prescribed tree (step ∷ steps) (entry ∷ them) tags many all =
     let by = all.0.1.prescriber in
     let within = slice_get_within (names_in (tags_of tree.declarations.items)) entry.1.prescriber.0 by.tag (at_place (names_in (tags_of tree.declarations.items)) by.tag entry.1.prescriber.0 by.place) in
-    let count = as_many_mapped (λ (collection : Collection). collection.name) (tags_of tree.declarations.items) in
+    let count = length-map (tags_of tree.declarations.items) (λ (collection : Collection). collection.name) in
     (omega arith, all_prescribed tree steps them tags many all.1)
+all_prescribed _ _ _ _ _ all = absurd (assumption)
 
 -- ---- the graph
 
@@ -98,29 +91,18 @@ module _ (tree : Tree) (resolved : Resolved) (steps : List (Text × Prescribed))
 
   steps_of : (named : List NamedStep) (them : List (Text × Prescribed)) → AreCheckedSteps tree named them → AreAll (IsStepOf tree g) named (map step_seen them)
   steps_of [] [] all = tt
-  steps_of [] (entry ∷ them) all = absurd all
-  steps_of (step ∷ named) [] all = absurd all
   steps_of (step ∷ named) (entry ∷ them) all = (step_of step entry all.0.0 all.0.1, steps_of named them all.1)
-
-  row_of : (is : Text → Relation → Bool) (row : List Bool) (own these : List Collection) → row ≡ each_of is tree.relations.items (names_in these) → own ≡ these → row ≡ each_of is tree.relations.items (names_in own)
-  row_of is row own these told same = told ∙ ap (λ (l : List Collection). each_of is tree.relations.items (names_in l)) (sym same)
+  steps_of _ _ all = absurd (assumption)
 
   pub is_its_graph : IsGraphOf tree g
   is_its_graph = record {
     items = same_items;
     tags = same_tags;
     steps = steps_of tree.steps.items steps checked;
-    environment_item_puts = row_of is_environment_item_put _ g.items items (row_told is_environment_item_put (names_in items) tree.relations.items _ (items_apart tree none) are.relations.environment_item_puts) same_items;
-    environment_tag_puts = row_of is_environment_tag_put _ g.tags tags (row_told is_environment_tag_put (names_in tags) tree.relations.items _ (tags_apart tree none) are.relations.environment_tag_puts) same_tags;
-    environment_gets = row_of is_environment_get _ g.items items (row_told is_environment_get (names_in items) tree.relations.items _ (items_apart tree none) are.relations.environment_gets) same_items;
+    environment_item_puts = row_told is_environment_item_put (names_in items) tree.relations.items _ (items_apart tree none) are.relations.environment_item_puts ∙ ap (λ (l : List Collection). each_of is_environment_item_put tree.relations.items (names_in l)) (sym same_items);
+    environment_tag_puts = row_told is_environment_tag_put (names_in tags) tree.relations.items _ (tags_apart tree none) are.relations.environment_tag_puts ∙ ap (λ (l : List Collection). each_of is_environment_tag_put tree.relations.items (names_in l)) (sym same_tags);
+    environment_gets = row_told is_environment_get (names_in items) tree.relations.items _ (items_apart tree none) are.relations.environment_gets ∙ ap (λ (l : List Collection). each_of is_environment_get tree.relations.items (names_in l)) (sym same_items);
   }
-
-  mapped_at : {X Y : Type 0} (f : X → Y) (xs : List X) (number : ℕ) (x : X) (default : Y) → slice_get xs number ≡ Some x → get_or (map f xs) number default ≡ f x
-  mapped_at f [] number x default there = absurd (cc)
-  mapped_at f (first ∷ xs) zero x default there =
-      let same : first ≡ x = cc in
-      ap f same
-  mapped_at f (first ∷ xs) (suc number) x default there = mapped_at f xs number x default there
 
   pub is_graph : IsGraph g
   is_graph = graph_is tree g small none is_its_graph
@@ -143,15 +125,16 @@ module _ (tree : Tree) (resolved : Resolved) (steps : List (Text × Prescribed))
   is_kept reads = record {
     graph = is_graph;
     reads = reads;
-    long = sym (as_many_mapped (λ (steps : Vec StepCollection Global). map (λ step. step.0) steps.items) prescribes.items) ∙ lists.long;
+    long = sym (length-map prescribes.items (λ (steps : Vec StepCollection Global). map (λ step. step.0) steps.items)) ∙ lists.long;
     prescribes = λ number those there.
         let within = slice_get_within prescribes.items number those there in
-        let count = as_many_mapped (λ (steps : Vec StepCollection Global). map (λ step. step.0) steps.items) prescribes.items in
-        sym (mapped_at (λ (steps : Vec StepCollection Global). map (λ step. step.0) steps.items) prescribes.items number those [] there) ∙ lists.each number (omega (arith, lists.long));
+        let count = length-map prescribes.items (λ (steps : Vec StepCollection Global). map (λ step. step.0) steps.items) in
+        ap (λ (steps : Vec StepCollection Global). map (λ step. step.0) steps.items) (sym (get_or_from_slice_get prescribes.items number those those there))
+        ∙ sym (get_or-map (λ (steps : Vec StepCollection Global). map (λ step. step.0) steps.items) prescribes.items number those [] within) ∙ lists.each number (omega (arith, lists.long));
   }
 
 pub few_steps : (tree : Tree) (steps : List (Text × Prescribed)) → IsSmall tree → AreCheckedSteps tree tree.steps.items steps → length steps < 2 ^ 16
-few_steps tree steps small checked = omega (arith, as_many_checked tree tree.steps.items steps checked, small.few)
+few_steps tree steps small checked = omega (arith, as_many (λ step entry. (entry.0 ≡ text_of step.name) × IsCheckedStep tree step entry.1) tree.steps.items steps checked, small.few)
 
 pub so_many_tags : (tree : Tree) (resolved : Resolved) → IsResolved tree resolved → length resolved.tags.numbered ≡ length (tags_of tree.declarations.items)
-so_many_tags tree resolved are = sym (as_many_mapped collection_seen resolved.tags.numbered) ∙ ap (λ (l : List Collection). length l) are.tags.numbered
+so_many_tags tree resolved are = sym (length-map resolved.tags.numbered collection_seen) ∙ ap (λ (l : List Collection). length l) are.tags.numbered

@@ -3,7 +3,7 @@ use Rattle.std.proofs.Common.{◌≡◌, ◌<◌, ℕ, Bool, true, false, List, 
 use Rattle.std.proofs.Math.ListN.{set}
 use Rattle.std.proofs.lemmas.Bool.{eqb-true, eq-eqb, true≢false}
 use Rattle.std.proofs.lemmas.Option.{slice_get_within}
-use Rattle.std.proofs.lemmas.List.{get_or-set_other}
+use Rattle.std.proofs.lemmas.List.{get_or-set_other, length-set}
 use Rattle.std.proofs.lemmas.Grind.{get_or-set_at}
 use Rattle.steptree.specs.declared.step.Name.{Name}
 use Rattle.steptree.specs.Names.{Text, is_text, place_of}
@@ -12,7 +12,7 @@ use Rattle.syntax.specs.declared.tree.Relation.{Relation}
 use Rattle.syntax.specs.declared.tree.Relation.TheVariants as related
 use Rattle.graph.specs.Marks.{ArePrescribers, IsPrescriber, prescriber_at}
 use Rattle.graph.specs.Tree.{text_of, is_name, prescriber_of}
-use Rattle.graph.proofs.Marks.{is_place, one_place, at_place, long_as_before}
+use Rattle.graph.proofs.Marks.{is_place, one_place, at_place}
 
 pub both_there : (tags : List Text) (tag : Option Text) (number : Option TagCollection) → IsPrescriber tags tag number → is_some number ≡ is_some tag
 both_there tags None number is = ap is_some is
@@ -25,24 +25,17 @@ either None other = other
 either (Some tag) other = Some tag
 
 either_if : (b : Bool) (tag : Text) (one two : Option Text) → (if b then Some tag else either one two) ≡ either (if b then Some tag else one) two
-either_if true tag one two = refl
-either_if false tag one two = refl
+either_if b tag one two = grind arith
 
 prescriber_of_both : (before more : List Relation) (step : Text) → prescriber_of (before ++ more) step ≡ either (prescriber_of before step) (prescriber_of more step)
 prescriber_of_both [] more step = refl
 prescriber_of_both (related.Prescribes one two ∷ before) more step =
     ap (λ (o : Option Text). if is_name two step then Some (text_of one) else o) (prescriber_of_both before more step)
     ∙ either_if (is_name two step) (text_of one) (prescriber_of before step) (prescriber_of more step)
-prescriber_of_both (related.Reads q c d ∷ before) more step = prescriber_of_both before more step
-prescriber_of_both (related.PutsItem q c d ∷ before) more step = prescriber_of_both before more step
-prescriber_of_both (related.PutsTag q c d ∷ before) more step = prescriber_of_both before more step
-prescriber_of_both (related.EnvironmentPutsItem q c ∷ before) more step = prescriber_of_both before more step
-prescriber_of_both (related.EnvironmentPutsTag q c ∷ before) more step = prescriber_of_both before more step
-prescriber_of_both (related.EnvironmentGets q c ∷ before) more step = prescriber_of_both before more step
+prescriber_of_both (_ ∷ before) more step = prescriber_of_both before more step
 
 either_none : (tag : Option Text) → either tag None ≡ tag
-either_none None = refl
-either_none (Some tag) = refl
+either_none tag = grind arith
 
 module _ (tags steps : List Text) (before : List Relation) where
   -- a relation of another kind prescribes nothing
@@ -61,7 +54,7 @@ module _ (tags steps : List Text) (before : List Relation) where
       → is_some (prescriber_at list (Some row)) ≡ false → ArePrescribers tags steps before list
       → ArePrescribers tags steps (before ++ related.Prescribes a b ∷ []) (set list row (Some (record { 0 = tag })))
   one_prescribed list a b tag row tag_there step_there free are = record {
-    long = long_as_before list row _ ∙ are.long;
+    long = length-set list row _ ∙ are.long;
     each = λ step. subst (λ (it : Option Text). IsPrescriber tags it (prescriber_at (set list row (Some (record { 0 = tag }))) (place_of steps step))) (sym (prescriber_of_both before (related.Prescribes a b ∷ []) step))
         (go (is_text (text_of b) step) (place_of steps step) (prescriber_of before step) (one_place steps (text_of b) step row step_there) (are.each step));
   }

@@ -1,21 +1,22 @@
 -- No two of the printed relations are equal, and each names what there is: so they are without a fault.
-use Rattle.std.proofs.Common.{◌≡◌, ℕ, Bool, true, false, ◌||◌, ◌&&◌, if◌then◌else◌, List, [], ◌∷◌, ◌++◌, get_or, map, Option, Some, None, refl, sym, ap, subst, ◌∙◌}
-use Rattle.std.specs.Prelude.{is_some, not, ⊤}
+use Rattle.std.proofs.Common.{◌≡◌, Bool, true, false, ◌||◌, ◌&&◌, if◌then◌else◌, List, [], ◌∷◌, ◌++◌, map, Some, None, refl, sym, ap, subst, ◌∙◌, arith}
+use Rattle.std.proofs.Math.Bool.{and-false}
+use Rattle.std.specs.Prelude.{is_some, ⊤}
 use Rattle.std.specs.List.{AllByRecursion, flat_map, list_any}
 use Rattle.std.proofs.lemmas.List.{map-append}
 use Rattle.steptree.specs.Names.{Text, is_text, place_of, names_in}
 use Rattle.syntax.specs.declared.tree.Relation.{Relation as Related}
-use Rattle.syntax.specs.Grammar.{Relation, prescribes, reads, puts_item, puts_tag, environment_puts_item, environment_puts_tag, environment_gets}
-use Rattle.graph.specs.declared.fault.GraphError.TheVariants.{Redeclared, UnknownName, StepMissing, TwoPrescribers}
+use Rattle.syntax.specs.Grammar.{Relation, prescribes}
 use Rattle.graph.specs.Graph.{Graph, Step}
 use Rattle.graph.specs.Tree.{prescriber_of}
-use Rattle.graph.specs.Faults.{At, fault_if, or_else, same_relation, again, unknown, missing, prescribed_before, relation_fault, relation_faults}
+use Rattle.graph.specs.Faults.{same_relation, relation_fault, relation_faults}
 use Rattle.graph.specs.Prescribed.{names_of_steps}
 use Rattle.graph.specs.Canonical.{those}
-use Rattle.graph.proofs.PrintedApart.{each, each_weaker, each_of_both, each_mapped, each_flat, and_false, Apart, Clear, apart_both, clear_both, clear_of_both, marked_apart, flipped}
+use Rattle.graph.proofs.PrintedApart.{Apart, Clear, apart_both, clear_both, clear_of_both, marked_apart}
 use Rattle.graph.proofs.PrintedRelations.{Shape, a_prescription, a_read, an_item_put, a_tag_put, an_environment_item, an_environment_tag, an_environment_get, shape_of, step_shapes, environment_shapes, shapes}
 use Rattle.graph.proofs.PrintedSets.{tree_relation}
-use Rattle.graph.proofs.PrintedValues.{name_of}
+use Rattle.graph.proofs.Texts.{same_both_ways}
+use Rattle.graph.proofs.Lists.{no_both, each, each_weaker, each_of_both, each_mapped, each_flat}
 
 -- whether a later relation repeats an earlier one; for prescriptions, whether they are of one step
 abbrev pub clash : Shape → Shape → Bool
@@ -30,17 +31,8 @@ clash one two = false
 
 -- ---- faults
 
-no_faults : (a b : List At) → a ≡ [] → b ≡ [] → a ++ b ≡ []
-no_faults a b x y = ap (λ (l : List At). l ++ b) x ∙ y
-
 not_again : (d b : Relation) → clash (shape_of d) (shape_of b) ≡ false → same_relation (tree_relation d) (tree_relation b) ≡ false
-not_again (reads p one two) (reads q three four) h = h
-not_again (puts_item p one two) (puts_item q three four) h = h
-not_again (puts_tag p one two) (puts_tag q three four) h = h
-not_again (environment_puts_item p one) (environment_puts_item q three) h = h
-not_again (environment_puts_tag p one) (environment_puts_tag q three) h = h
-not_again (environment_gets p one) (environment_gets q three) h = h
-not_again _ _ h = refl
+not_again d b h = grind arith
 
 none_before : (d : Relation) (before : List Relation) → AllByRecursion (λ shape. clash (shape_of d) shape ≡ false) (map shape_of before) → list_any (same_relation (tree_relation d)) (map tree_relation before) ≡ false
 none_before d [] all = refl
@@ -66,30 +58,10 @@ module _ (items tags steps : List Text) where
   IsKnown (an_environment_tag tag) = IsThere tags tag
   IsKnown (an_environment_get item) = IsThere items item
 
-  none_unknown : (names : List Text) (text : Text) (place : ℕ) → IsThere names text → unknown names (name_of (text, place)) ≡ []
-  none_unknown names text place h = ap (λ (b : Bool). fault_if (not b) UnknownName place) h
-
-  none_missing : (names : List Text) (text : Text) (place : ℕ) → IsThere names text → missing names (name_of (text, place)) ≡ []
-  none_missing names text place h = ap (λ (b : Bool). fault_if (not b) StepMissing place) h
-
-  not_redeclared : (d : Relation) (before : List Relation) (place : ℕ) → AllByRecursion (λ shape. clash (shape_of d) shape ≡ false) (map shape_of before) → again (map tree_relation before) (tree_relation d) place ≡ []
-  not_redeclared d before place all = ap (λ (b : Bool). fault_if b Redeclared place) (none_before d before all)
-
   one_without : (before : List Relation) (d : Relation) → IsKnown (shape_of d) → AllByRecursion (λ shape. clash (shape_of d) shape ≡ false) (map shape_of before)
       → relation_fault items tags steps (map tree_relation before) (tree_relation d) ≡ []
-  one_without before (prescribes tag step) is all =
-      no_faults _ _ (none_unknown tags tag.0 tag.1 is.0)
-      (ap (λ (l : List At). or_else l (prescribed_before (map tree_relation before) (name_of step))) (none_missing steps step.0 step.1 is.1)
-      ∙ ap (λ (o : Option Text). fault_if (is_some o) TwoPrescribers step.1) (not_prescribed tag.0 step.0 before all))
-  one_without before (reads place item step) is all =
-      no_faults _ _ (no_faults _ _ (not_redeclared (reads place item step) before place all) (none_unknown items item.0 item.1 is.0)) (none_missing steps step.0 step.1 is.1)
-  one_without before (puts_item place step item) is all =
-      no_faults _ _ (no_faults _ _ (not_redeclared (puts_item place step item) before place all) (none_missing steps step.0 step.1 is.0)) (none_unknown items item.0 item.1 is.1)
-  one_without before (puts_tag place step tag) is all =
-      no_faults _ _ (no_faults _ _ (not_redeclared (puts_tag place step tag) before place all) (none_missing steps step.0 step.1 is.0)) (none_unknown tags tag.0 tag.1 is.1)
-  one_without before (environment_puts_item place item) is all = no_faults _ _ (not_redeclared (environment_puts_item place item) before place all) (none_unknown items item.0 item.1 is)
-  one_without before (environment_puts_tag place tag) is all = no_faults _ _ (not_redeclared (environment_puts_tag place tag) before place all) (none_unknown tags tag.0 tag.1 is)
-  one_without before (environment_gets place item) is all = no_faults _ _ (not_redeclared (environment_gets place item) before place all) (none_unknown items item.0 item.1 is)
+  one_without before (prescribes tag step) is all = simp (not_prescribed tag.0 step.0 before all, is.0, is.1)
+  one_without before d is all = grind (arith, none_before d before all, is)
 
   pub relations_without_fault : (before relations : List Relation) → AllByRecursion IsKnown (map shape_of relations) → Apart clash (map shape_of relations) → Clear clash (map shape_of before) (map shape_of relations)
       → relation_faults items tags steps (map tree_relation before) (map tree_relation relations) ≡ []
@@ -99,7 +71,7 @@ module _ (items tags steps : List Text) where
       each_weaker (λ y. clash y (shape_of d) ≡ false) (λ y. AllByRecursion (λ x. clash y x ≡ false) (shape_of d ∷ [])) (λ y h. (h, tt)) (map shape_of relations) apart.0 in
       let more : Clear clash (map shape_of (before ++ d ∷ [])) (map shape_of relations) =
       subst (λ (l : List Shape). Clear clash l (map shape_of relations)) (sym (map-append shape_of before (d ∷ []))) (clear_of_both clash (map shape_of before) (shape_of d ∷ []) (map shape_of relations) clear.1 ones) in
-      no_faults _ _ (one_without before d is.0 clear.0)
+      no_both _ _ (one_without before d is.0 clear.0)
       (ap (λ (l : List Related). relation_faults items tags steps l (map tree_relation relations)) (sym (map-append tree_relation before (d ∷ []))) ∙ relations_without_fault (before ++ d ∷ []) relations is.1 apart.1 more)
 
 -- ---- no two of a graph's relations clash
@@ -122,10 +94,6 @@ three_apart a b c xs ys zs one two three h k m =
     apart_both clash (map a xs ++ map b ys) (map c zs) (apart_both clash (map a xs) (map b ys) one two (clear_mapped a b h xs ys)) three
     (clear_of_both clash (map a xs) (map b ys) (map c zs) (clear_mapped a c k xs zs) (clear_mapped b c m ys zs))
 
-pub each_of_three : (P : Shape → Type 0) (a b c : Text → Shape) (xs ys zs : List Text) → AllByRecursion (λ text. P (a text)) xs → AllByRecursion (λ text. P (b text)) ys → AllByRecursion (λ text. P (c text)) zs
-    → AllByRecursion P (map a xs ++ map b ys ++ map c zs)
-each_of_three P a b c xs ys zs one two three = each_of_both P (map a xs ++ map b ys) (map c zs) (each_of_both P (map a xs) (map b ys) (each_mapped P a xs one) (each_mapped P b ys two)) (each_mapped P c zs three)
-
 -- a relation of the step with this name, and one of the environment
 abbrev IsOfStep : Text → Shape → Type 0
 IsOfStep name (a_prescription tag step) = step ≡ name
@@ -140,54 +108,26 @@ IsOfEnvironment (an_environment_tag tag) = ⊤
 IsOfEnvironment (an_environment_get item) = ⊤
 IsOfEnvironment shape = ⊥
 
-differ : (one two name other : Text) → one ≡ name → two ≡ other → is_text name other ≡ false → is_text one two ≡ false
-differ one two name other x y h = ap (λ (t : Text). is_text t two) x ∙ ap (λ (t : Text). is_text name t) y ∙ h
-
 other_step : (name other : Text) (one two : Shape) → IsOfStep name one → IsOfStep other two → is_text name other ≡ false → clash one two ≡ false
-other_step name other (a_prescription tag step) (a_prescription tag2 step2) x y h = flipped step step2 (differ step step2 name other x y h)
-other_step name other (a_read item step) (a_read item2 step2) x y h = ap (λ (b : Bool). is_text item item2 && b) (differ step step2 name other x y h) ∙ and_false (is_text item item2)
-other_step name other (an_item_put step item) (an_item_put step2 item2) x y h = ap (λ (b : Bool). b && is_text item item2) (differ step step2 name other x y h)
-other_step name other (a_tag_put step tag) (a_tag_put step2 tag2) x y h = ap (λ (b : Bool). b && is_text tag tag2) (differ step step2 name other x y h)
-other_step name other (an_environment_item item) two x y h = absurd x
-other_step name other (an_environment_tag tag) two x y h = absurd x
-other_step name other (an_environment_get item) two x y h = absurd x
-other_step name other _ _ x y h = refl
+other_step name other one two x y h = grind (arith, same_both_ways)
 
 not_of_step : (name : Text) (one two : Shape) → IsOfEnvironment one → IsOfStep name two → clash one two ≡ false
-not_of_step name (an_environment_item item) (an_environment_item item2) x y = absurd y
-not_of_step name (an_environment_tag tag) (an_environment_tag tag2) x y = absurd y
-not_of_step name (an_environment_get item) (an_environment_get item2) x y = absurd y
-not_of_step name (a_prescription tag step) two x y = absurd x
-not_of_step name (a_read item step) two x y = absurd x
-not_of_step name (an_item_put step item) two x y = absurd x
-not_of_step name (a_tag_put step tag) two x y = absurd x
-not_of_step name _ _ x y = refl
+not_of_step name one two x y = grind arith
 
 module _ (g : Graph) (items_apart : Apart is_text (names_in g.items)) (tags_apart : Apart is_text (names_in g.tags)) where
   all_of_step : (step : Step) → AllByRecursion (IsOfStep step.name) (step_shapes g step)
-  all_of_step step = (
-    refl,
-    each_of_three (IsOfStep step.name) (λ item. a_read item step.name) (λ item. an_item_put step.name item) (λ tag. a_tag_put step.name tag) (those g.items step.reads) (those g.items step.item_puts) (those g.tags step.tag_puts)
-        (each (λ item. IsOfStep step.name (a_read item step.name)) (λ it. refl) (those g.items step.reads))
-        (each (λ item. IsOfStep step.name (an_item_put step.name item)) (λ it. refl) (those g.items step.item_puts))
-        (each (λ tag. IsOfStep step.name (a_tag_put step.name tag)) (λ it. refl) (those g.tags step.tag_puts)),
-  )
+  all_of_step step = search (each_of_both, each_mapped, each)
 
   all_of_environment : AllByRecursion IsOfEnvironment (environment_shapes g)
-  all_of_environment =
-      each_of_three IsOfEnvironment (λ item. an_environment_item item) (λ tag. an_environment_tag tag) (λ item. an_environment_get item) (those g.items g.environment_item_puts) (those g.tags g.environment_tag_puts) (those g.items g.environment_gets)
-      (each (λ item. IsOfEnvironment (an_environment_item item)) (λ it. tt) (those g.items g.environment_item_puts)) (each (λ tag. IsOfEnvironment (an_environment_tag tag)) (λ it. tt) (those g.tags g.environment_tag_puts))
-      (each (λ item. IsOfEnvironment (an_environment_get item)) (λ it. tt) (those g.items g.environment_gets))
+  all_of_environment = search (each_of_both, each_mapped, each)
 
   step_apart : (step : Step) → Apart clash (step_shapes g step)
   step_apart step = (
-    each_of_three (λ y. clash y (a_prescription (get_or (names_in g.tags) step.prescriber []) step.name) ≡ false) (λ item. a_read item step.name) (λ item. an_item_put step.name item) (λ tag. a_tag_put step.name tag)
-        (those g.items step.reads) (those g.items step.item_puts) (those g.tags step.tag_puts)
-        (each (λ item. false ≡ false) (λ it. refl) (those g.items step.reads)) (each (λ item. false ≡ false) (λ it. refl) (those g.items step.item_puts)) (each (λ tag. false ≡ false) (λ it. refl) (those g.tags step.tag_puts)),
+    search (each_of_both, each_mapped, each),
     three_apart (λ item. a_read item step.name) (λ item. an_item_put step.name item) (λ tag. a_tag_put step.name tag) (those g.items step.reads) (those g.items step.item_puts) (those g.tags step.tag_puts)
         (apart_mapped (λ item. a_read item step.name) (λ one two h. ap (λ (b : Bool). b && is_text step.name step.name) h) (those g.items step.reads) (marked_apart (names_in g.items) step.reads items_apart))
-        (apart_mapped (λ item. an_item_put step.name item) (λ one two h. ap (λ (b : Bool). is_text step.name step.name && b) h ∙ and_false (is_text step.name step.name)) (those g.items step.item_puts) (marked_apart (names_in g.items) step.item_puts items_apart))
-        (apart_mapped (λ tag. a_tag_put step.name tag) (λ one two h. ap (λ (b : Bool). is_text step.name step.name && b) h ∙ and_false (is_text step.name step.name)) (those g.tags step.tag_puts) (marked_apart (names_in g.tags) step.tag_puts tags_apart))
+        (apart_mapped (λ item. an_item_put step.name item) (λ one two h. ap (λ (b : Bool). is_text step.name step.name && b) h ∙ and-false (is_text step.name step.name)) (those g.items step.item_puts) (marked_apart (names_in g.items) step.item_puts items_apart))
+        (apart_mapped (λ tag. a_tag_put step.name tag) (λ one two h. ap (λ (b : Bool). is_text step.name step.name && b) h ∙ and-false (is_text step.name step.name)) (those g.tags step.tag_puts) (marked_apart (names_in g.tags) step.tag_puts tags_apart))
         (λ one two. refl) (λ one two. refl) (λ one two. refl),
   )
 

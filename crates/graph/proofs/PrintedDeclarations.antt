@@ -13,11 +13,11 @@ use Rattle.graph.specs.Textual.{IsGraphName}
 use Rattle.graph.specs.Canonical.{in_brackets, in_angles, with_colon, component_names, line}
 use Rattle.graph.proofs.PrintedTokens.{after_word, after_sign, never, anything, Printed, behind, and, and_blanks, closed_sign, open_sign}
 use Rattle.graph.proofs.PrintedNames.{Fronts, no_name_limit}
-use Rattle.graph.proofs.PrintedExpressions.{no_both}
-use Rattle.graph.proofs.PrintedLists.{OnePrinted, AllPrinted, all_printed, related_lengths}
+use Rattle.graph.proofs.PrintedLists.{OnePrinted, AllPrinted, all_printed}
 use Rattle.graph.proofs.PrintedKeys.{key_fronts}
 use Rattle.graph.proofs.PrintedLines.{semicolon}
 use Rattle.graph.proofs.PrintedNameLists.{Bears, no_limits_of, none_behind, HeadPrinted, head_printed, good_components, many_components}
+use Rattle.graph.proofs.Lists.{as_many, no_both}
 
 -- ---- in brackets
 
@@ -49,7 +49,7 @@ pub record Declares (make : Named → Option Names → Declaration) (collection 
 declares : (make : Named → Option Names → Declaration) (collection : Collection) (place : ℕ) (it : HeadPrinted place collection.name (component_names collection.components)) → Declarable collection
     → Declares make collection (make (collection.name, place) it.names)
 declares make collection place it good =
-    let many : length (all_names it.names) ≡ collection.components = sym (related_lengths Bears (component_names collection.components) (all_names it.names) it.related) ∙ many_components collection.components good.few in record {
+    let many : length (all_names it.names) ≡ collection.components = (as_many Bears (component_names collection.components) (all_names it.names) it.related) ∙ many_components collection.components good.few in record {
       position = place;
       components = it.names;
       is = refl;

@@ -3,27 +3,24 @@ use Rattle.std.proofs.Common.{◌≡◌, ℕ, suc, ℤ, pos, ◌+◌, ◌<◌, �
 use Rattle.std.specs.Prelude.{max}
 use Rattle.steptree.specs.declared.expression.Operator.{Operator}
 use Rattle.steptree.specs.declared.expression.Operator.TheVariants as operator
-use Rattle.steptree.specs.declared.expression.Expression.{Expression}
-use Rattle.steptree.specs.Tree.{Number, Variable, Negation, Operation}
-use Rattle.steptree.specs.declared.step.NamedExpression.{NamedExpression}
-use Rattle.steptree.specs.declared.step.NamedExpression.TheVariants as tree
+use Rattle.steptree.specs.Tree.{Expression, Number, Variable, Negation, Operation, NamedExpression}
 use Rattle.steptree.specs.Names.{Text}
 use Rattle.steptree.specs.Resolved.{IsExpression}
 use Rattle.syntax.specs.declared.limits.TheConstants.{MOST_BRACKETS}
 use Rattle.syntax.specs.declared.token.Symbol.{Symbol}
 use Rattle.syntax.specs.declared.token.Symbol.TheVariants as sign
 use Rattle.syntax.specs.Tokens.{GREATEST}
-use Rattle.syntax.specs.Grammar.{Position, equal, not_equal, less, less_or_equal, greater, greater_or_equal, plus, minus, times, over, modulo}
-use Rattle.syntax.specs.Grammar.{Expr, sum_alone, compared, prod_alone, added, unary_alone, multiplied, Unary, negated, literal, variable, bracketed}
+use Rattle.syntax.specs.Grammar.{equal, not_equal, less, less_or_equal, greater, greater_or_equal, plus, minus, times, over, modulo, Expr, sum_alone, compared, prod_alone, added, unary_alone, multiplied, Unary, negated, literal, variable, bracketed}
 use Rattle.syntax.specs.Spelled.{Piece, at, a_sign, sign_at, expr_pieces, unary_pieces}
 use Rattle.syntax.specs.Limits.{expr_depth, unary_depth, expr_within, unary_within}
 use Rattle.syntax.specs.Tree.{IsExpr, IsUnary}
 use Rattle.graph.specs.Graph.{Graph}
-use Rattle.graph.specs.Textual.{depth_of, IsSpelled, AreNames}
+use Rattle.graph.specs.Textual.{depth_of, IsSpelled, AreNames, IsGraphName}
 use Rattle.graph.specs.Canonical.{in_rounds, operator_text, expression_text}
 use Rattle.graph.proofs.PrintedTokens.{after_word, after_sign, never, anything, Printed, behind, and, narrowed, and_space, sign_and_space, closed_sign, open_sign, double_sign}
-use Rattle.graph.proofs.PrintedNames.{Fronts, printed_name, name_fronts, name_at, no_name_limit, no_more_limit, printed_number, number_fronts, found_at}
-use Rattle.graph.proofs.PrintedValues.{boxed, name_of}
+use Rattle.graph.proofs.PrintedNames.{Fronts, printed_name, name_fronts, no_name_limit, no_more_limit, printed_number, number_fronts, found_at}
+use Rattle.graph.proofs.PrintedValues.{name_of}
+use Rattle.graph.proofs.Lists.{each_at, no_both}
 
 -- ---- operators
 
@@ -70,7 +67,7 @@ between_within around operator.Add left right = refl
 between_within around _ left right = refl
 
 between_is : (op : Operator) (left right : Unary) (one two : NamedExpression) → IsUnary left one → IsUnary right two
-    → IsExpr (between op left right) (tree.Operation' op boxed one two)
+    → IsExpr (between op left right) (Operation op one two)
 unfolding between
 between_is operator.Add left right one two x y = (refl, x, y)
 between_is _ left right one two x y = (refl, x, y)
@@ -118,12 +115,7 @@ pub record IsPrinted (g : Graph) (names : List Text) (place : ℕ) (expression :
 
 some_depth : (expression : Expression) → 1 ≤ depth_of expression
 some_depth (Number value) = omega arith
-some_depth (Variable slot) = omega arith
-some_depth (Negation operand) = omega arith
-some_depth (Operation op left right) = omega arith
-
-pub no_both : (a b : List Position) → a ≡ [] → b ≡ [] → a ++ b ≡ []
-no_both a b x y = ap (λ (l : List Position). l ++ b) x ∙ y
+some_depth _ = omega arith
 
 module _ (g : Graph) (names : List Text) (are : AreNames names) where
   number_printed : (place : ℕ) (value : ℕ) → value ≤ GREATEST → IsPrinted g names place (Number (pos value))
@@ -133,7 +125,7 @@ module _ (g : Graph) (names : List Text) (are : AreNames names) where
     fronts = number_fronts value small;
     depth = refl;
     within = λ around h. refl;
-    value = tree.Number (pos value);
+    value = Number (pos value);
     is = refl;
     resolves = refl;
   }
@@ -141,11 +133,11 @@ module _ (g : Graph) (names : List Text) (are : AreNames names) where
   variable_printed : (place : ℕ) (slot : ℕ) → slot < length names → IsPrinted g names place (Variable slot)
   variable_printed place slot within = record {
     unary = variable (get_or names slot [], place);
-    printed = printed_name place (get_or names slot []) (name_at names slot are.each within);
-    fronts = name_fronts (get_or names slot []) (name_at names slot are.each within);
+    printed = printed_name place (get_or names slot []) (each_at IsGraphName names slot [] within are.each);
+    fronts = name_fronts (get_or names slot []) (each_at IsGraphName names slot [] within are.each);
     depth = refl;
-    within = λ around h. no_name_limit (get_or names slot []) place (name_at names slot are.each within);
-    value = tree.Variable (name_of (get_or names slot [], place));
+    within = λ around h. no_name_limit (get_or names slot []) place (each_at IsGraphName names slot [] within are.each);
+    value = Variable (name_of (get_or names slot [], place));
     is = (refl, refl);
     resolves = found_at names slot are.distinct within;
   }
@@ -157,7 +149,7 @@ module _ (g : Graph) (names : List Text) (are : AreNames names) where
     fronts = λ rest. refl;
     depth = ap suc it.depth;
     within = λ around h. no_both _ _ (no_more_limit MOST_BRACKETS around place (omega (arith, some_depth operand))) (it.within (suc around) (omega arith));
-    value = tree.Negation' boxed it.value;
+    value = Negation it.value;
     is = it.is;
     resolves = it.resolves;
   }
@@ -180,7 +172,7 @@ module _ (g : Graph) (names : List Text) (are : AreNames names) where
         within = λ around h.
             let inner = no_both _ _ (one.within (suc around) (omega arith)) (two.within (suc around) (omega arith)) in
             no_both _ _ (no_more_limit MOST_BRACKETS around place (omega (arith, some_depth left))) (between_within (suc around) op one.unary two.unary ∙ inner);
-        value = tree.Operation' op boxed one.value two.value;
+        value = Operation op one.value two.value;
         is = between_is op one.unary two.unary one.value two.value one.is two.is;
         resolves = (refl, one.resolves, two.resolves);
       }

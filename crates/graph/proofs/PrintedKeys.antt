@@ -1,10 +1,9 @@
 -- An item or a tag of a printed body: a name, and after a colon its components.
-use Rattle.std.proofs.Common.{◌≡◌, ℕ, ◌+◌, ◌≤◌, Bool, false, if◌then◌else◌, nat_lt, List, [], ◌∷◌, ◌++◌, length, map, codes, refl, sym, ap, subst, ◌∙◌, arith, append_assoc}
-use Rattle.std.proofs.lemmas.Bool.Decides.{nat_tests}
+use Rattle.std.proofs.Common.{◌≡◌, ℕ, ◌+◌, ◌≤◌, List, [], ◌∷◌, ◌++◌, length, map, codes, refl, sym, ap, subst, ◌∙◌, arith, append_assoc}
 use Rattle.terms.specs.declared.key.TheConstants.{MAX_COMPONENTS}
-use Rattle.steptree.specs.declared.expression.Expression.{Expression}
-use Rattle.steptree.specs.declared.step.NamedExpression.{NamedExpression}
-use Rattle.steptree.specs.declared.step.NamedKey.{NamedKey}
+use Rattle.steptree.specs.Tree.{Expression, NamedExpression}
+use Rattle.std.specs.Global.{Vec}
+use Rattle.steptree.specs.declared.step.Name.{Name}
 use Rattle.steptree.specs.Names.{Text}
 use Rattle.steptree.specs.Resolved.{IsExpression, AreExpressions}
 use Rattle.syntax.specs.declared.limits.TheConstants.{MOST_DEPTH}
@@ -12,16 +11,17 @@ use Rattle.syntax.specs.declared.token.Symbol.TheVariants as sign
 use Rattle.syntax.specs.Tokens.{BeginsWithout}
 use Rattle.syntax.specs.Grammar.{Position, Sum, prod_alone, unary_alone, no_sums, sums, Key}
 use Rattle.syntax.specs.Spelled.{named, a_sign, sum_pieces, sums_pieces, item_pieces, tag_pieces}
-use Rattle.syntax.specs.Limits.{unary_depth, unary_first, depth_limits, sum_limits, sums_limits, key_limits}
+use Rattle.syntax.specs.Limits.{unary_depth, unary_first, sum_limits, sums_limits, key_limits}
 use Rattle.syntax.specs.Tree.{IsSum, AreAll, IsKey}
 use Rattle.graph.specs.Graph.{Graph}
 use Rattle.graph.specs.Textual.{depth_of, IsTextExpression, AreComponents, IsGraphName, AreNames}
 use Rattle.graph.specs.Canonical.{with_colon, in_brackets, in_angles, joined, expression_text}
 use Rattle.graph.proofs.PrintedTokens.{after_word, after_sign, never, Printed, behind, and, sign_and_space, closed_sign, open_sign}
-use Rattle.graph.proofs.PrintedNames.{Fronts, printed_name, name_fronts, no_name_limit}
-use Rattle.graph.proofs.PrintedExpressions.{IsPrinted, no_both, expression_printed}
+use Rattle.graph.proofs.PrintedNames.{Fronts, printed_name, name_fronts, no_name_limit, within_limit}
+use Rattle.graph.proofs.PrintedExpressions.{IsPrinted, expression_printed}
 use Rattle.graph.proofs.PrintedLists.{OnePrinted, joined_printed, no_all}
 use Rattle.graph.proofs.PrintedValues.{vec_of, name_of}
+use Rattle.graph.proofs.Lists.{no_both}
 
 -- ---- components
 
@@ -32,17 +32,11 @@ pub record IsComponent (names : List Text) (expression : Expression) (sum : Sum)
   pub is : IsSum sum value
   pub resolves : IsExpression names value expression
 
-no_depth : (depth : ℕ) (place : Position) → depth ≤ MOST_DEPTH → depth_limits depth place ≡ []
-no_depth depth place h = ap (λ (b : Bool). if b then place ∷ [] else []) (not_less depth h)
-  where
-    not_less : (depth : ℕ) → depth ≤ MOST_DEPTH → nat_lt MOST_DEPTH depth ≡ false
-    not_less depth h = grind (arith, nat_tests)
-
 -- a printed expression as a whole exceeds no limit
 pub no_limits : {g : Graph} {names : List Text} {place : ℕ} {expression : Expression} (it : IsPrinted g names place expression) → depth_of expression ≤ MOST_DEPTH
     → sum_limits (prod_alone (unary_alone it.unary)) ≡ []
 no_limits it small =
-    no_both _ _ (no_depth (unary_depth it.unary) (unary_first it.unary) (omega (arith, it.depth))) (it.within 0 (omega arith))
+    no_both _ _ (within_limit MOST_DEPTH (unary_depth it.unary) (unary_first it.unary) (omega (arith, it.depth))) (it.within 0 (omega arith))
 
 module _ (g : Graph) (names : List Text) (are : AreNames names) where
   component_printed : (expression : Expression) (place : ℕ) → IsTextExpression (length names) expression → OnePrinted after_word (expression_text g names) sum_pieces (IsComponent names) place expression
@@ -62,12 +56,11 @@ pub record HasValues (names : List Text) (expressions : List Expression) (compon
 
 values_of : (names : List Text) (expressions : List Expression) (components : List Sum) → AreAll (IsComponent names) expressions components → HasValues names expressions components
 values_of names [] [] all = record { values = []; are = tt; resolve = tt; many = refl }
-values_of names [] (component ∷ components) all = absurd all
-values_of names (expression ∷ expressions) [] all = absurd all
 values_of names (expression ∷ expressions) (component ∷ components) all =
     let one = all.0 in
     let rest = values_of names expressions components all.1 in
     record { values = one.value ∷ rest.values; are = (one.is, rest.are); resolve = (one.resolves, rest.resolve); many = omega (arith, rest.many) }
+values_of _ _ _ all = absurd (assumption)
 
 -- ---- keys
 
@@ -76,10 +69,11 @@ pub record KeyPrinted (g : Graph) (names : List Text) (place : ℕ) (collection 
   pub key : Key
   pub printed : Printed after_word place (with_colon collection (map (expression_text g names) components)) (named key.collection ∷ sums_pieces key.components)
   pub limits : key_limits key ≡ []
-  pub value : NamedKey
-  pub is : IsKey key value
-  pub is_of : value.collection.text.now ≡ collection
-  pub resolve : AreExpressions names value.components.items components
+  pub name : Name
+  pub parts : Vec NamedExpression
+  pub is : IsKey key name parts.items
+  pub is_of : name.text.now ≡ collection
+  pub resolve : AreExpressions names parts.items components
 
 pub colon : (place : ℕ) → Printed never place (codes ": ") (a_sign sign.Colon)
 colon place = sign_and_space (open_sign place 58 sign.Colon _ refl refl (λ e. omega (arith, e)))
@@ -90,7 +84,8 @@ module _ (g : Graph) (names : List Text) (are : AreNames names) (collection : Te
     key = record { collection = (collection, place); components = no_sums };
     printed = printed_name place collection is_name;
     limits = ap (λ (l : List Position). l ++ []) (no_name_limit collection place is_name);
-    value = record { collection = name_of (collection, place); components = vec_of [] (omega arith) };
+    name = name_of (collection, place);
+    parts = vec_of [] (omega arith);
     is = ((refl, refl), refl);
     is_of = refl;
     resolve = tt;
@@ -103,7 +98,8 @@ module _ (g : Graph) (names : List Text) (are : AreNames names) (collection : Te
         printed = and (behind (printed_name place collection is_name) (colon (place + length collection)) (λ rest may. refl)) it.printed;
         limits = ap (λ (l : List Position). l ++ sums_limits (sums it.first it.more)) (no_name_limit collection place is_name)
             ∙ no_all (IsComponent names) sum_limits (λ x d r. r.limits) (first ∷ more) (it.first ∷ it.more) it.related;
-        value = record { collection = name_of (collection, place); components = vec_of trees.values (omega (arith, trees.many)) };
+        name = name_of (collection, place);
+        parts = vec_of trees.values (omega (arith, trees.many));
         is = ((refl, refl), trees.are);
         is_of = refl;
         resolve = trees.resolve;

@@ -1,5 +1,6 @@
 -- Lists that are printed one element after another, or with commas between them.
-use Rattle.std.proofs.Common.{◌≡◌, ℕ, ◌+◌, Bool, List, [], ◌∷◌, ◌++◌, length, map, codes, refl, sym, ap, subst, ◌∙◌, arith, append_assoc}
+use Rattle.std.proofs.Common.{◌≡◌, ℕ, ◌+◌, Bool, List, [], ◌∷◌, ◌++◌, length, map, codes, refl, sym, subst, append_assoc}
+use Rattle.std.proofs.lemmas.List.Folds.{flat_map-map}
 use Rattle.std.specs.List.{AllByRecursion, flat_map}
 use Rattle.syntax.specs.declared.token.Symbol.TheVariants as sign
 use Rattle.syntax.specs.Tokens.{BeginsWithout}
@@ -39,27 +40,16 @@ module _ {X D : Type 0} (stop : ℕ → Bool) (text_of : X → Text) (pieces_of 
 
 -- ---- what is known of each of two lists
 
-pub related_lengths : {X D : Type 0} (Rel : X → D → Type 0) (xs : List X) (ds : List D) → AreAll Rel xs ds → length xs ≡ length ds
-related_lengths Rel [] [] all = refl
-related_lengths Rel [] (d ∷ ds) all = absurd all
-related_lengths Rel (x ∷ xs) [] all = absurd all
-related_lengths Rel (x ∷ xs) (d ∷ ds) all = omega (arith, related_lengths Rel xs ds all.1)
-
 -- no limit is exceeded if no element exceeds one
 pub no_all : {X D Y : Type 0} (Rel : X → D → Type 0) (limits : D → List Y) → ((x : X) (d : D) → Rel x d → limits d ≡ []) → (xs : List X) (ds : List D) → AreAll Rel xs ds → flat_map limits ds ≡ []
 no_all Rel limits none [] [] all = refl
-no_all Rel limits none [] (d ∷ ds) all = absurd all
-no_all Rel limits none (x ∷ xs) [] all = absurd all
-no_all {X} {D} {Y} Rel limits none (x ∷ xs) (d ∷ ds) all = ap (λ (l : List Y). l ++ flat_map limits ds) (none x d all.0) ∙ no_all Rel limits none xs ds all.1
+no_all Rel limits none (x ∷ xs) (d ∷ ds) all = λ i. none x d all.0 i ++ no_all Rel limits none xs ds all.1 i
+no_all _ _ _ _ _ all = absurd (assumption)
 
 -- ---- commas
 
 pub comma : (place : ℕ) → Printed never place (codes ", ") (a_sign sign.Comma)
 comma place = and_blanks (closed_sign place 44 sign.Comma _ refl refl refl) (codes " ") (refl, tt) (λ rest may. refl)
-
-pub flat_map-map : {X Y Z : Type 0} (f : Y → List Z) (h : X → Y) (xs : List X) → flat_map f (map h xs) ≡ flat_map (λ x. f (h x)) xs
-flat_map-map f h [] = refl
-flat_map-map {X} {Y} {Z} f h (x ∷ xs) = ap (λ (l : List Z). f (h x) ++ l) (flat_map-map f h xs)
 
 module _ {X D : Type 0} (text_of : X → Text) (pieces_of : D → List Piece) (Rel : X → D → Type 0) (Good : X → Type 0) where
   abbrev pub comma_text : X → Text

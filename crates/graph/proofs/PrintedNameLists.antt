@@ -1,5 +1,5 @@
 -- Lists of names that are printed: components of a declaration, parameters and variables.
-use Rattle.std.proofs.Common.{◌≡◌, ◌≢◌, ℕ, zero, suc, ◌+◌, ◌≤◌, true, List, [], ◌∷◌, ◌++◌, length, map, take, codes, Option, Some, None, refl, sym, ap, subst, arith, length-take-le}
+use Rattle.std.proofs.Common.{◌≡◌, ◌≢◌, ℕ, ◌+◌, ◌≤◌, true, List, [], ◌∷◌, ◌++◌, length, map, codes, Option, Some, None, refl, sym, ap, subst, arith, length-take-le, Bool}
 use Rattle.std.specs.List.{AllByRecursion, flat_map}
 use Rattle.std.proofs.lemmas.List.{drop_all, map-id}
 use Rattle.terms.specs.declared.key.TheConstants.{MAX_COMPONENTS}
@@ -8,7 +8,7 @@ use Rattle.syntax.specs.declared.token.Word.{Word}
 use Rattle.syntax.specs.declared.token.Word.TheVariants as kept
 use Rattle.syntax.specs.Tokens.{is_letter, word_text}
 use Rattle.syntax.specs.Grammar.{Named, Names}
-use Rattle.syntax.specs.Spelled.{named, names_pieces, after_colon, parameters_pieces, variables_pieces}
+use Rattle.syntax.specs.Spelled.{named, names_pieces, after_colon, parameters_pieces, variables_pieces, Piece}
 use Rattle.syntax.specs.Limits.{name_limits, names_behind, all_names}
 use Rattle.syntax.specs.Tree.{IsName, AreAll}
 use Rattle.graph.specs.Textual.{IsGraphName}
@@ -19,6 +19,7 @@ use Rattle.graph.proofs.PrintedLists.{OnePrinted, joined_printed, no_all}
 use Rattle.graph.proofs.PrintedKeys.{colon}
 use Rattle.graph.proofs.PrintedLines.{inside, lined, word_first, semicolon}
 use Rattle.graph.proofs.PrintedValues.{name_of}
+use Rattle.graph.proofs.PrintedApart.{take_each}
 
 -- a name of a derivation that has this text, where the text is a good name
 pub record Bears (text : Text) (it : Named) : Type 0 where
@@ -36,9 +37,8 @@ none_behind most those few = ap (λ (l : List Named). map (λ it. it.1) l) (drop
 
 pub texts_of : (texts : List Text) (those : List Named) → AreAll Bears texts those → map (λ (it : Named). it.0) those ≡ texts
 texts_of [] [] all = refl
-texts_of [] (it ∷ those) all = absurd all
-texts_of (text ∷ texts) [] all = absurd all
 texts_of (text ∷ texts) (it ∷ those) all = let heads : it.0 ≡ text = all.0.same in let tails = texts_of texts those all.1 in cc
+texts_of _ _ all = absurd (assumption)
 
 pub names_of_all : (those : List Named) → AreAll IsName those (map name_of those)
 names_of_all [] = tt
@@ -64,10 +64,14 @@ names_printed first more place good =
 
 -- ---- after a colon, in round brackets and on a line
 
-pub record HeadPrinted (place : ℕ) (collection : Text) (texts : List Text) : Type 0 where
+-- a list of names, and what stands around it
+pub record ListPrinted (stop : ℕ → Bool) (place : ℕ) (text : Text) (pieces : Option Names → List Piece) (texts : List Text) : Type 0 where
   pub names : Option Names
-  pub printed : Printed after_word place (with_colon collection texts) (named (collection, place) ∷ after_colon names)
+  pub printed : Printed stop place text (pieces names)
   pub related : AreAll Bears texts (all_names names)
+
+abbrev pub HeadPrinted : ℕ → Text → List Text → Type 0
+HeadPrinted place collection texts = ListPrinted after_word place (with_colon collection texts) (λ names. named (collection, place) ∷ after_colon names) texts
 
 pub head_printed : (collection : Text) (texts : List Text) (place : ℕ) → IsGraphName collection → AllByRecursion IsGraphName texts → HeadPrinted place collection texts
 head_printed collection [] place is good = record { names = None; printed = printed_name place collection is; related = tt }
@@ -78,21 +82,11 @@ head_printed collection (first ∷ more) place is good =
       related = it.related;
     }
 
-pub record ParametersPrinted (place : ℕ) (texts : List Text) : Type 0 where
-  pub names : Option Names
-  pub printed : Printed after_word place (joined texts) (parameters_pieces names)
-  pub related : AreAll Bears texts (all_names names)
-
-pub parameters_printed : (texts : List Text) (place : ℕ) → AllByRecursion IsGraphName texts → ParametersPrinted place texts
+pub parameters_printed : (texts : List Text) (place : ℕ) → AllByRecursion IsGraphName texts → ListPrinted after_word place (joined texts) parameters_pieces texts
 parameters_printed [] place good = record { names = None; printed = narrowed (λ rest may. anything rest) (nothing place); related = tt }
 parameters_printed (first ∷ more) place good = let it = names_printed first more place good in record { names = Some it.names; printed = it.printed; related = it.related }
 
-pub record VariablesPrinted (place : ℕ) (texts : List Text) : Type 0 where
-  pub names : Option Names
-  pub printed : Printed never place (variables_line texts) (variables_pieces names)
-  pub related : AreAll Bears texts (all_names names)
-
-pub variables_printed : (texts : List Text) (place : ℕ) → AllByRecursion IsGraphName texts → VariablesPrinted place texts
+pub variables_printed : (texts : List Text) (place : ℕ) → AllByRecursion IsGraphName texts → ListPrinted never place (variables_line texts) variables_pieces texts
 variables_printed [] place good = record { names = None; printed = nothing place; related = tt }
 variables_printed (first ∷ more) place good =
     let start : ℕ = inside 1 place in
@@ -118,12 +112,7 @@ good_letters = (
 )
 
 pub good_components : (components : ℕ) → AllByRecursion IsGraphName (component_names components)
-good_components components = first components letters good_letters
-  where
-    first : (count : ℕ) (texts : List Text) → AllByRecursion IsGraphName texts → AllByRecursion IsGraphName (take count texts)
-    first zero texts good = tt
-    first (suc count) [] good = tt
-    first (suc count) (text ∷ texts) good = (good.0, first count texts good.1)
+good_components components = take_each IsGraphName components letters good_letters
 
 pub many_components : (components : ℕ) → components ≤ MAX_COMPONENTS → length (component_names components) ≡ components
 many_components components few = length-take-le components letters (omega (arith, few))

@@ -1,7 +1,8 @@
 -- The canonical text of a graph that a text can give reads as that graph.
 use Rattle.std.proofs.Common.{◌≡◌, ◌+◌, ◌≤◌, List, [], ◌∷◌, ◌++◌, length, get_or, map, false, sym, ap, subst, ◌∙◌, arith, append_assoc, length-append}
+use Rattle.std.proofs.lemmas.Grind.{flat_map-append}
 use Rattle.std.specs.List.{AllByRecursion, flat_map}
-use Rattle.std.proofs.lemmas.List.{append-nil}
+use Rattle.std.proofs.lemmas.List.{append-nil, length-map}
 use Rattle.steptree.specs.declared.sheet.TheConstants.{MOST_COLLECTIONS}
 use Rattle.steptree.specs.declared.step.Step.{Step as NamedStep}
 use Rattle.steptree.specs.Nameable.{Collection, Nameable}
@@ -14,40 +15,34 @@ use Rattle.syntax.specs.Spelled.{Piece, declaration_pieces, relation_pieces, ste
 use Rattle.syntax.specs.Limits.{relation_limits}
 use Rattle.syntax.specs.Tree.{AreAll}
 use Rattle.graph.specs.Graph.{Graph, Step, sheet_of}
-use Rattle.graph.specs.Tree.{text_of, items_of, tags_of, step_names, is_read, is_item_put, is_tag_put, each_of, sheet_in, IsStepOf}
-use Rattle.graph.specs.Faults.{At, declaration_faults, relation_faults, step_faults}
+use Rattle.graph.specs.Tree.{items_of, tags_of, step_names, is_read, is_item_put, is_tag_put, each_of, sheet_in, IsStepOf}
+use Rattle.graph.specs.Faults.{declaration_faults, relation_faults, step_faults}
 use Rattle.graph.specs.Textual.{IsTextual, CanonicalReads}
 use Rattle.graph.specs.Prescribed.{names_of_steps}
 use Rattle.graph.specs.Canonical.{in_brackets, in_angles, step_text, step_relations, environment_relations, canonical}
 use Rattle.graph.proofs.PrintedTokens.{never, anything, Printed, and, whole}
-use Rattle.graph.proofs.PrintedExpressions.{no_both}
-use Rattle.graph.proofs.PrintedLists.{AllPrinted, all_printed, related_lengths, no_all}
+use Rattle.graph.proofs.PrintedLists.{AllPrinted, all_printed, no_all}
 use Rattle.graph.proofs.PrintedCollections.{many_names}
 use Rattle.graph.proofs.PrintedDeclarations.{declaration_line, item_lines_printed, tag_lines_printed, Declares}
 use Rattle.graph.proofs.PrintedDeclared.{tree_declaration, are_declarations, items_back, no_items, no_tags, tags_back, declarations_within, without_fault}
-use Rattle.graph.proofs.PrintedApart.{each, Clear}
-use Rattle.graph.proofs.PrintedRelations.{shape_line, Shaped, shapes, relations_printed, relation_lines, flat_of_both}
+use Rattle.graph.proofs.PrintedApart.{Clear}
+use Rattle.graph.proofs.PrintedRelations.{shape_line, Shaped, shapes, relations_printed, relation_lines}
 use Rattle.graph.proofs.PrintedSets.{tree_relation, are_relations}
 use Rattle.graph.proofs.PrintedMarks.{environment_items_told, environment_tags_told, environment_gets_told}
-use Rattle.graph.proofs.PrintedSteps.{IsGood, DerivedStep, step_printed, many_mapped}
-use Rattle.graph.proofs.PrintedTrees.{Shown, step_trees, names_shown, steps_within, Facts, steps_without_fault}
+use Rattle.graph.proofs.PrintedSteps.{IsGood, DerivedStep, step_printed, Shown}
+use Rattle.graph.proofs.PrintedTrees.{step_trees, names_shown, steps_within, Facts, steps_without_fault}
 use Rattle.graph.proofs.PrintedGraph.{declarable, shapes_count, items_apart, tags_apart, steps_apart, good_steps, good_shapes, facts, relations_are_right}
 use Rattle.graph.proofs.PrintedValues.{vec_of}
+use Rattle.graph.proofs.Lists.{as_many, no_both, each}
 
 -- ---- the steps of a graph are those of a tree
 
 module _ (tree : Tree) (g : Graph) (items : items_of tree.declarations.items ≡ g.items) (tags : tags_of tree.declarations.items ≡ g.tags) where
   step_of : (value : NamedStep) (step : Step) → Shown g value step → Facts g tree.relations.items step → IsStepOf tree g value step
   step_of value step shown told =
-      let reads : step.reads ≡ (sheet_in tree value).reads =
-      sym (ap (λ (l : List Collection). each_of (λ item. is_read item (text_of value.name)) tree.relations.items (names_in l)) items
-      ∙ ap (λ (t : Text). each_of (λ item. is_read item t) tree.relations.items (names_in g.items)) shown.name ∙ told.reads) in
-      let item_puts : step.item_puts ≡ (sheet_in tree value).item_puts =
-      sym (ap (λ (l : List Collection). each_of (is_item_put (text_of value.name)) tree.relations.items (names_in l)) items
-      ∙ ap (λ (t : Text). each_of (is_item_put t) tree.relations.items (names_in g.items)) shown.name ∙ told.item_puts) in
-      let tag_puts : step.tag_puts ≡ (sheet_in tree value).tag_puts =
-      sym (ap (λ (l : List Collection). each_of (is_tag_put (text_of value.name)) tree.relations.items (names_in l)) tags
-      ∙ ap (λ (t : Text). each_of (is_tag_put t) tree.relations.items (names_in g.tags)) shown.name ∙ told.tag_puts) in
+      let reads : step.reads ≡ (sheet_in tree value).reads = sym ((λ i. each_of (λ item. is_read item (shown.name i)) tree.relations.items (names_in (items i))) ∙ told.reads) in
+      let item_puts : step.item_puts ≡ (sheet_in tree value).item_puts = sym ((λ i. each_of (is_item_put (shown.name i)) tree.relations.items (names_in (items i))) ∙ told.item_puts) in
+      let tag_puts : step.tag_puts ≡ (sheet_in tree value).tag_puts = sym ((λ i. each_of (is_tag_put (shown.name i)) tree.relations.items (names_in (tags i))) ∙ told.tag_puts) in
       let same : sheet_of g step ≡ sheet_in tree value = λ i. record { items = sym items i; tags = sym tags i; reads = reads i; item_puts = item_puts i; tag_puts = tag_puts i } in record {
         name = sym shown.name;
         prescriber = (get_or (names_in g.tags) step.prescriber [], told.prescriber, told.place);
@@ -63,9 +58,8 @@ module _ (tree : Tree) (g : Graph) (items : items_of tree.declarations.items ≡
 
   steps_of : (values : List NamedStep) (steps : List Step) → AreAll (Shown g) values steps → AllByRecursion (Facts g tree.relations.items) steps → AreAll (IsStepOf tree g) values steps
   steps_of [] [] all told = tt
-  steps_of [] (step ∷ steps) all told = absurd all
-  steps_of (value ∷ values) [] all told = absurd all
   steps_of (value ∷ values) (step ∷ steps) all told = (step_of value step all.0 told.0, steps_of values steps all.1 told.1)
+  steps_of _ _ all _ = absurd (assumption)
 
 -- ---- the text
 
@@ -100,7 +94,7 @@ all_parts g it =
     let same : declared ++ flat_map shape_line (shapes g) ++ texts ≡ canonical g =
     ap (λ (l : Text). declared ++ l ++ texts) (relation_lines g) ∙ both_lines declared (flat_map (step_relations g) g.steps) (environment_relations g) texts in
     let pieces : flat_map declaration_pieces (it.items.derived ++ it.tags.derived) ≡ flat_map declaration_pieces it.items.derived ++ flat_map declaration_pieces it.tags.derived =
-    flat_of_both declaration_pieces it.items.derived it.tags.derived in
+    flat_map-append declaration_pieces it.items.derived it.tags.derived in
     subst (λ (t : Text). Printed never 0 t (graph_pieces (text_of_parts it))) same
     (subst (λ (p : List Piece). Printed never 0 (declared ++ flat_map shape_line (shapes g) ++ texts) (p ++ flat_map relation_pieces it.relations.derived ++ flat_map step_pieces it.steps.derived)) (sym pieces) all)
 
@@ -118,15 +112,15 @@ canonical_reads g is short =
     let two : List Declaration = it.tags.derived in
     let relations : List Relation = it.relations.derived in
     let trees = step_trees g g.steps it.steps.derived it.steps.related in
-    let many_items : length g.items ≡ length one = related_lengths (Declares item_declared) g.items one it.items.related in
-    let many_tags : length g.tags ≡ length two = related_lengths (Declares tag_declared) g.tags two it.tags.related in
-    let many_relations : length (shapes g) ≡ length relations = related_lengths Shaped (shapes g) relations it.relations.related in
+    let many_items : length g.items ≡ length one = sym (as_many (Declares item_declared) g.items one it.items.related) in
+    let many_tags : length g.tags ≡ length two = sym (as_many (Declares tag_declared) g.tags two it.tags.related) in
+    let many_relations : length (shapes g) ≡ length relations = sym (as_many Shaped (shapes g) relations it.relations.related) in
     let few_items : length g.items ≤ MOST_COLLECTIONS = is.graph.items.few in
     let few_tags : length g.tags ≤ MOST_COLLECTIONS = is.graph.tags.few in
     let few_steps : length g.steps ≤ MOST_COLLECTIONS = is.graph.few in
     let tree : Tree = record {
-      declarations = vec_of (map tree_declaration (one ++ two)) (omega (arith, many_mapped tree_declaration (one ++ two), length-append one two, many_items, many_tags, few_items, few_tags));
-      relations = vec_of (map tree_relation relations) (omega (arith, many_mapped tree_relation relations, many_relations, shapes_count g few_items few_tags few_steps));
+      declarations = vec_of (map tree_declaration (one ++ two)) (omega (arith, length-map (one ++ two) tree_declaration, length-append one two, many_items, many_tags, few_items, few_tags));
+      relations = vec_of (map tree_relation relations) (omega (arith, length-map relations tree_relation, many_relations, shapes_count g few_items few_tags few_steps));
       steps = vec_of trees.values (omega (arith, trees.many, few_steps));
     } in
     let items : items_of (map tree_declaration (one ++ two)) ≡ g.items =
@@ -136,15 +130,11 @@ canonical_reads g is short =
     let declared : declaration_faults [] [] (map tree_declaration (one ++ two)) ≡ [] =
     without_fault [] g.items g.tags one two it.items.related it.tags.related (items_apart g is) (tags_apart g is) (nothing_before (names_in g.items)) (nothing_before (names_in g.tags)) in
     let related : relation_faults (names_in (items_of (map tree_declaration (one ++ two)))) (names_in (tags_of (map tree_declaration (one ++ two)))) (step_names trees.values) [] (map tree_relation relations) ≡ [] =
-    ap (λ (l : List Collection). relation_faults (names_in l) (names_in (tags_of (map tree_declaration (one ++ two)))) (step_names trees.values) [] (map tree_relation relations)) items
-    ∙ ap (λ (l : List Collection). relation_faults (names_in g.items) (names_in l) (step_names trees.values) [] (map tree_relation relations)) tags
-    ∙ ap (λ (l : List Text). relation_faults (names_in g.items) (names_in g.tags) l [] (map tree_relation relations)) (names_shown g trees.values g.steps trees.shown)
+    (λ i. relation_faults (names_in (items i)) (names_in (tags i)) (names_shown g trees.values g.steps trees.shown i) [] (map tree_relation relations))
     ∙ relations_are_right g is relations it.relations.related in
     let stepped : step_faults (tags_of (map tree_declaration (one ++ two))) (map tree_relation relations) [] trees.values ≡ [] =
     ap (λ (l : List Collection). step_faults l (map tree_relation relations) [] trees.values) tags
-    ∙ steps_without_fault g (map tree_relation relations) [] trees.values g.steps trees.shown all_facts (steps_apart g is) (nothing_before (names_of_steps g.steps)) in
-    let no_faults : (a b c : List At) → a ≡ [] → b ≡ [] → c ≡ [] → a ++ b ++ c ≡ [] =
-    λ a b c x y z. ap (λ (l : List At). l ++ b ++ c) x ∙ ap (λ (l : List At). l ++ c) y ∙ z in record {
+    ∙ steps_without_fault g (map tree_relation relations) [] trees.values g.steps trees.shown all_facts (steps_apart g is) (nothing_before (names_of_steps g.steps)) in record {
       short = short;
       ascii = printed.ascii;
       tree = tree;
@@ -157,7 +147,7 @@ canonical_reads g is short =
             (no_all Shaped relation_limits (λ shape relation h. h.limits) (shapes g) relations it.relations.related)) (steps_within g 0 g.steps it.steps.derived it.steps.related (omega arith));
         is = record { declarations = are_declarations (one ++ two); relations = are_relations relations; steps = trees.are };
       };
-      no_fault = no_faults _ _ _ declared related stepped;
+      no_fault = no_both _ _ (no_both _ _ declared related) stepped;
       graph = record {
         items = sym items;
         tags = sym tags;

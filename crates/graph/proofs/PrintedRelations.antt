@@ -1,5 +1,7 @@
 -- The relations of a graph as they are printed.
-use Rattle.std.proofs.Common.{◌≡◌, ℕ, ◌+◌, Bool, false, List, [], ◌∷◌, ◌++◌, length, get_or, map, codes, refl, sym, ap, ◌∙◌, append_assoc}
+use Rattle.std.proofs.Common.{◌≡◌, ℕ, ◌+◌, Bool, false, List, [], ◌∷◌, ◌++◌, length, get_or, map, codes, refl, ap, ◌∙◌, append_assoc}
+use Rattle.std.proofs.lemmas.List.Folds.{flat_map-map}
+use Rattle.std.proofs.lemmas.Grind.{flat_map-append}
 use Rattle.std.specs.List.{AllByRecursion, flat_map}
 use Rattle.steptree.specs.Names.{Text, names_in}
 use Rattle.syntax.specs.declared.token.Word.TheVariants as kept
@@ -13,10 +15,11 @@ use Rattle.graph.specs.Textual.{IsGraphName}
 use Rattle.graph.specs.Canonical.{in_brackets, in_angles, in_rounds, arrow, line, those, step_relations, environment_relations}
 use Rattle.graph.proofs.PrintedTokens.{after_word, never, anything, Printed, behind, and, and_blanks, closed_sign}
 use Rattle.graph.proofs.PrintedNames.{printed_name, name_fronts, no_name_limit, word_at, a_word_alone}
-use Rattle.graph.proofs.PrintedExpressions.{no_both, rounded, rounded_anywhere}
-use Rattle.graph.proofs.PrintedLists.{OnePrinted, AllPrinted, all_printed, flat_map-map}
+use Rattle.graph.proofs.PrintedExpressions.{rounded, rounded_anywhere}
+use Rattle.graph.proofs.PrintedLists.{OnePrinted, AllPrinted, all_printed}
 use Rattle.graph.proofs.PrintedLines.{semicolon, arrow_sign, colons}
 use Rattle.graph.proofs.PrintedDeclarations.{bracketed, angled}
+use Rattle.graph.proofs.Lists.{no_both}
 
 -- a relation by its names, without a position
 pub data Shape : Type 0 where
@@ -133,24 +136,14 @@ environment_shapes g =
 abbrev pub shapes : Graph → List Shape
 shapes g = flat_map (step_shapes g) g.steps ++ environment_shapes g
 
-pub flat_of_both : {X Y : Type 0} (f : X → List Y) (xs ys : List X) → flat_map f (xs ++ ys) ≡ flat_map f xs ++ flat_map f ys
-flat_of_both f [] ys = refl
-flat_of_both {X} {Y} f (x ∷ xs) ys = ap (λ (l : List Y). f x ++ l) (flat_of_both f xs ys) ∙ sym (append_assoc (f x) (flat_map f xs) (flat_map f ys))
-
 flat_of_flat : {X Y Z : Type 0} (f : Y → List Z) (h : X → List Y) (k : X → List Z) → ((x : X) → flat_map f (h x) ≡ k x) → (xs : List X) → flat_map f (flat_map h xs) ≡ flat_map k xs
 flat_of_flat f h k same [] = refl
-flat_of_flat {X} {Y} {Z} f h k same (x ∷ xs) =
-    flat_of_both f (h x) (flat_map h xs) ∙ ap (λ (l : List Z). l ++ flat_map f (flat_map h xs)) (same x) ∙ ap (λ (l : List Z). k x ++ l) (flat_of_flat f h k same xs)
+flat_of_flat f h k same (x ∷ xs) = flat_map-append f (h x) (flat_map h xs) ∙ (λ i. same x i ++ flat_of_flat f h k same xs i)
 
 -- three lists of texts, each with its own lines
 three : (a b c : Text → Shape) (xs ys zs : List Text) → flat_map shape_line (map a xs ++ map b ys ++ map c zs)
     ≡ flat_map (λ x. shape_line (a x)) xs ++ flat_map (λ x. shape_line (b x)) ys ++ flat_map (λ x. shape_line (c x)) zs
-three a b c xs ys zs =
-    flat_of_both shape_line (map a xs ++ map b ys) (map c zs)
-    ∙ ap (λ (l : Text). l ++ flat_map shape_line (map c zs)) (flat_of_both shape_line (map a xs) (map b ys))
-    ∙ ap (λ (l : Text). l ++ flat_map shape_line (map b ys) ++ flat_map shape_line (map c zs)) (flat_map-map shape_line a xs)
-    ∙ ap (λ (l : Text). flat_map (λ x. shape_line (a x)) xs ++ l ++ flat_map shape_line (map c zs)) (flat_map-map shape_line b ys)
-    ∙ ap (λ (l : Text). flat_map (λ x. shape_line (a x)) xs ++ flat_map (λ x. shape_line (b x)) ys ++ l) (flat_map-map shape_line c zs)
+three a b c xs ys zs = simp (flat_map-append, flat_map-map)
 
 regrouped : (a b c d : Text) → a ++ (b ++ c ++ d) ≡ a ++ b ++ c ++ d
 regrouped a b c d = simp append_assoc
@@ -164,7 +157,6 @@ step_lines g step =
 
 pub relation_lines : (g : Graph) → flat_map shape_line (shapes g) ≡ flat_map (step_relations g) g.steps ++ environment_relations g
 relation_lines g =
-    flat_of_both shape_line (flat_map (step_shapes g) g.steps) (environment_shapes g)
-    ∙ ap (λ (l : Text). l ++ flat_map shape_line (environment_shapes g)) (flat_of_flat shape_line (step_shapes g) (step_relations g) (step_lines g) g.steps)
-    ∙ ap (λ (l : Text). flat_map (step_relations g) g.steps ++ l)
-    (three (λ item. an_environment_item item) (λ tag. an_environment_tag tag) (λ item. an_environment_get item) (those g.items g.environment_item_puts) (those g.tags g.environment_tag_puts) (those g.items g.environment_gets))
+    flat_map-append shape_line (flat_map (step_shapes g) g.steps) (environment_shapes g)
+    ∙ (λ i. flat_of_flat shape_line (step_shapes g) (step_relations g) (step_lines g) g.steps i
+    ++ three (λ item. an_environment_item item) (λ tag. an_environment_tag tag) (λ item. an_environment_get item) (those g.items g.environment_item_puts) (those g.tags g.environment_tag_puts) (those g.items g.environment_gets) i)

@@ -1,10 +1,6 @@
 -- The statements that both blocks of a step have, as they are printed.
 use Rattle.std.proofs.Common.{◌≡◌, ℕ, suc, ◌+◌, ◌<◌, List, [], ◌∷◌, ◌++◌, length, get_or, codes, refl, subst, append_assoc}
-use Rattle.steptree.specs.declared.expression.Expression.{Expression}
-use Rattle.steptree.specs.declared.block.Block.{Block}
-use Rattle.steptree.specs.Tree.{End, Assign, If, For}
-use Rattle.steptree.specs.declared.step.NamedBlock.{NamedBlock}
-use Rattle.steptree.specs.declared.step.NamedBlock.TheVariants as tree
+use Rattle.steptree.specs.Tree.{Expression, Block, End, Assign, If, For, NamedBlock}
 use Rattle.steptree.specs.Names.{Text}
 use Rattle.steptree.specs.Resolved.{IsBlock}
 use Rattle.steptree.specs.Nameable.{Nameable}
@@ -18,13 +14,14 @@ use Rattle.syntax.specs.Limits.{statements_limits}
 use Rattle.syntax.specs.Tree.{AreStatements}
 use Rattle.graph.specs.Graph.{Graph}
 use Rattle.graph.specs.Textual.{IsTextExpression, IsGraphName, AreNames}
-use Rattle.graph.specs.Canonical.{in_rounds, expression_text, block_text, line}
+use Rattle.graph.specs.Canonical.{in_rounds, expression_text, block_text, line, assignment_line, condition_line, range_line}
 use Rattle.graph.proofs.PrintedTokens.{never, Printed, behind, and, nothing}
-use Rattle.graph.proofs.PrintedNames.{printed_name, name_at, found_at, no_name_limit, no_more_limit}
-use Rattle.graph.proofs.PrintedExpressions.{no_both, rounded_anywhere, expression_printed}
+use Rattle.graph.proofs.PrintedNames.{printed_name, found_at, no_name_limit, no_more_limit}
+use Rattle.graph.proofs.PrintedExpressions.{rounded_anywhere, expression_printed}
 use Rattle.graph.proofs.PrintedKeys.{no_limits}
 use Rattle.graph.proofs.PrintedLines.{inside, lined, word_first, semicolon, close_brace, open_brace, equals, dots, among, otherwise}
-use Rattle.graph.proofs.PrintedValues.{boxed, name_of}
+use Rattle.graph.proofs.PrintedValues.{name_of}
+use Rattle.graph.proofs.Lists.{each_at, no_both}
 
 -- what is inside braces, with the braces belonging to the lines around it
 in_order : (front inner rest : List Piece) (begin end : Piece) → front ++ (begin ∷ []) ++ inner ++ (end ∷ []) ++ rest ≡ front ++ (begin ∷ (inner ++ (end ∷ []))) ++ rest
@@ -46,43 +43,37 @@ module _ {B : Type 0} (own_pieces : B → List Piece) (own_limits : B → List P
     pub resolves : IsBlock names sheet value block
 
   pub end_printed : (level around place : ℕ) → BlockPrinted level around place End
-  end_printed level around place = record { statements = no_more; printed = nothing place; limits = refl; value = tree.End; is = refl; resolves = tt }
+  end_printed level around place = record { statements = no_more; printed = nothing place; limits = refl; value = End; is = refl; resolves = tt }
 
   module _ (are : AreNames names) where
     -- an assignment
-    abbrev assign_line : ℕ → ℕ → Expression → Text
-    assign_line level slot value = line level (get_or names slot [] ++ codes " = " ++ expression_text g names value ++ codes ";")
-
     pub assign_printed : (level around place slot : ℕ) (value : Expression) (rest : Block) → slot < length names → IsTextExpression (length names) value
-        → BlockPrinted level around (place + length (assign_line level slot value)) rest → BlockPrinted level around place (Assign slot value rest)
+        → BlockPrinted level around (place + length (assignment_line g names level slot value)) rest → BlockPrinted level around place (Assign slot value rest)
     assign_printed level around place slot value rest within is later =
         let start : ℕ = inside level place in
         let variable : Text = get_or names slot [] in
-        let good : IsGraphName variable = name_at names slot are.each within in
+        let good : IsGraphName variable = each_at IsGraphName names slot [] within are.each in
         let it = expression_printed g names are value (start + length (variable ++ codes " = ")) is.0 in
         let head = behind (printed_name start variable good) (equals (start + length variable)) (λ more may. refl) in
         let all = behind (and head it.printed) (semicolon (start + length (variable ++ codes " = " ++ expression_text g names value))) (λ more may. refl) in record {
           statements = and_then (assigned (variable, start) (sum_alone (prod_alone (unary_alone it.unary)))) later.statements;
           printed = and (lined level place all) later.printed;
           limits = no_both _ _ (no_both _ _ (no_name_limit variable start good) (no_limits it is.1)) later.limits;
-          value = tree.Assign' (name_of (variable, start)) it.value boxed later.value;
+          value = Assign (name_of (variable, start)) it.value later.value;
           is = ((refl, refl), it.is, later.is);
           resolves = (found_at names slot are.distinct within, it.resolves, later.resolves);
         }
 
     -- a choice
-    abbrev if_line : ℕ → Expression → Text
-    if_line level condition = line level (codes "if " ++ in_rounds (expression_text g names condition) ++ codes " {")
-
     abbrev if_front : ℕ → Expression → Block → Text
-    if_front level condition first = if_line level condition ++ block_text g names (suc level) first
+    if_front level condition first = condition_line g names level condition ++ block_text g names (suc level) first
 
     abbrev if_middle : ℕ → Expression → Block → Block → Text
     if_middle level condition first second = if_front level condition first ++ line level (codes "} else {") ++ block_text g names (suc level) second
 
     pub if_printed : (level around place : ℕ) (condition : Expression) (first : Block) (second : Block) (rest : Block)
         → IsTextExpression (length names) condition → around < MOST_BRACES
-        → BlockPrinted (suc level) (suc around) (place + length (if_line level condition)) first
+        → BlockPrinted (suc level) (suc around) (place + length (condition_line g names level condition)) first
         → BlockPrinted (suc level) (suc around) (place + length (if_front level condition first ++ line level (codes "} else {"))) second
         → BlockPrinted level around (place + length (if_middle level condition first second ++ line level (codes "}"))) rest
         → BlockPrinted level around place (If condition first second rest)
@@ -102,7 +93,7 @@ module _ {B : Type 0} (own_pieces : B → List Piece) (own_limits : B → List P
               (both_in_order (condition_pieces expr) (statements_pieces own_pieces one.statements) (statements_pieces own_pieces two.statements) (statements_pieces own_pieces later.statements)
               (at (brace + 1) (symbol sign.OpenBrace)) (plain (symbol sign.CloseBrace)) (plain (word kept.Else)) (at other (symbol sign.OpenBrace)) (plain (symbol sign.CloseBrace))) all;
           limits = no_both _ _ (no_both _ _ (no_both _ _ (no_both _ _ (no_both _ _ (no_limits it is.1) (no_more_limit MOST_BRACES around (brace + 1) few)) one.limits) (no_more_limit MOST_BRACES around other few)) two.limits) later.limits;
-          value = tree.If' it.value boxed one.value boxed two.value boxed later.value;
+          value = If it.value one.value two.value later.value;
           is = (it.is, one.is, two.is, later.is);
           resolves = (it.resolves, one.resolves, two.resolves, later.resolves);
         }
@@ -111,18 +102,15 @@ module _ {B : Type 0} (own_pieces : B → List Piece) (own_limits : B → List P
     abbrev for_text : ℕ → Expression → Expression → Text
     for_text slot from to = codes "for " ++ get_or names slot [] ++ codes " in " ++ expression_text g names from ++ codes " .. " ++ expression_text g names to
 
-    abbrev for_line : ℕ → ℕ → Expression → Expression → Text
-    for_line level slot from to = line level (for_text slot from to ++ codes " {")
-
     pub for_printed : (level around place slot : ℕ) (from to : Expression) (block : Block) (rest : Block)
         → slot < length names → IsTextExpression (length names) from → IsTextExpression (length names) to → around < MOST_BRACES
-        → BlockPrinted (suc level) (suc around) (place + length (for_line level slot from to)) block
-        → BlockPrinted level around (place + length (for_line level slot from to ++ block_text g names (suc level) block ++ line level (codes "}"))) rest
+        → BlockPrinted (suc level) (suc around) (place + length (range_line g names level slot from to)) block
+        → BlockPrinted level around (place + length (range_line g names level slot from to ++ block_text g names (suc level) block ++ line level (codes "}"))) rest
         → BlockPrinted level around place (For slot from to block rest)
     for_printed level around place slot from to block rest within is is2 few one later =
         let start : ℕ = inside level place in
         let variable : Text = get_or names slot [] in
-        let good : IsGraphName variable = name_at names slot are.each within in
+        let good : IsGraphName variable = each_at IsGraphName names slot [] within are.each in
         let first : ℕ = start + length (codes "for " ++ variable ++ codes " in ") in
         let it = expression_printed g names are from first is.0 in
         let second : ℕ = start + length (codes "for " ++ variable ++ codes " in " ++ expression_text g names from ++ codes " .. ") in
@@ -133,14 +121,14 @@ module _ {B : Type 0} (own_pieces : B → List Piece) (own_limits : B → List P
         let named_variable = behind (and (word_first start kept.For) (printed_name (start + 4) variable good)) (among (start + length (codes "for " ++ variable))) (λ more may. refl) in
         let lower = behind (and named_variable it.printed) (dots (start + length (codes "for " ++ variable ++ codes " in " ++ expression_text g names from))) (λ more may. refl) in
         let head = lined level place (behind (and lower it2.printed) (open_brace brace) (λ more may. refl)) in
-        let end = lined level (place + length (for_line level slot from to ++ block_text g names (suc level) block)) (close_brace (inside level (place + length (for_line level slot from to ++ block_text g names (suc level) block)))) in
+        let end = lined level (place + length (range_line g names level slot from to ++ block_text g names (suc level) block)) (close_brace (inside level (place + length (range_line g names level slot from to ++ block_text g names (suc level) block)))) in
         let all = and (and (and head one.printed) end) later.printed in record {
           statements = and_then (for (variable, start + 4) low high (brace + 1) one.statements) later.statements;
           printed = subst (λ (p : List Piece). Printed never place (block_text g names level (For slot from to block rest)) p)
               (in_order (a_word kept.For ++ (at (start + 4) (name variable) ∷ a_word kept.In) ++ expr_pieces low ++ a_sign sign.DoubleDot ++ expr_pieces high) (statements_pieces own_pieces one.statements)
               (statements_pieces own_pieces later.statements) (at (brace + 1) (symbol sign.OpenBrace)) (plain (symbol sign.CloseBrace))) all;
           limits = no_both _ _ (no_both _ _ (no_both _ _ (no_both _ _ (no_both _ _ (no_name_limit variable (start + 4) good) (no_limits it is.1)) (no_limits it2 is2.1)) (no_more_limit MOST_BRACES around (brace + 1) few)) one.limits) later.limits;
-          value = tree.For' (name_of (variable, start + 4)) it.value it2.value boxed one.value boxed later.value;
+          value = For (name_of (variable, start + 4)) it.value it2.value one.value later.value;
           is = ((refl, refl), it.is, it2.is, one.is, later.is);
           resolves = (found_at names slot are.distinct within, it.resolves, it2.resolves, one.resolves, later.resolves);
         }

@@ -2,7 +2,7 @@
 use Rattle.std.proofs.Common.{◌≡◌, ℕ, zero, suc, ◌+◌, false, List, [], ◌∷◌, ◌++◌, length, map, take, drop, codes, Option, refl, sym, ap, subst, ◌∙◌, arith, append_assoc, length-append, length-take-le, take-append-drop}
 use Rattle.std.specs.Prelude.{is_some}
 use Rattle.std.specs.List.{AllByRecursion}
-use Rattle.std.proofs.lemmas.List.{map-append}
+use Rattle.std.proofs.lemmas.List.{map-append, length-map}
 use Rattle.terms.specs.declared.key.TheConstants.{MAX_COMPONENTS}
 use Rattle.steptree.specs.declared.slot.TheConstants.{MOST_NAMES}
 use Rattle.steptree.specs.declared.step.Name.{Name}
@@ -26,28 +26,19 @@ use Rattle.graph.specs.Textual.{IsGraphName, AreNames, IsTextStep}
 use Rattle.graph.specs.Canonical.{in_rounds, joined, line, variables_line, block_text, step_text}
 use Rattle.graph.proofs.PrintedTokens.{never, Printed, behind, and}
 use Rattle.graph.proofs.PrintedNames.{printed_name, no_name_limit}
-use Rattle.graph.proofs.PrintedExpressions.{no_both, rounded_anywhere}
-use Rattle.graph.proofs.PrintedLists.{OnePrinted, related_lengths}
+use Rattle.graph.proofs.PrintedExpressions.{rounded_anywhere}
+use Rattle.graph.proofs.PrintedLists.{OnePrinted}
 use Rattle.graph.proofs.PrintedLines.{inside, lined, word_first, close_brace, plain_brace}
 use Rattle.graph.proofs.PrintedNameLists.{Bears, no_limits_of, none_behind, texts_of, names_of_all, parameters_printed, variables_printed}
 use Rattle.graph.proofs.PrintedNames.{a_word_alone}
 use Rattle.graph.proofs.PrintedCollections.{known}
 use Rattle.graph.proofs.PrintedBlocks.{read_printed, write_printed}
-use Rattle.graph.proofs.PrintedApart.{Apart, Clear, apart, nowhere, each}
+use Rattle.graph.proofs.PrintedApart.{Apart, Clear, apart, nowhere, take_each}
 use Rattle.graph.proofs.PrintedDeclared.{one_before}
 use Rattle.graph.proofs.PrintedValues.{vec_of, name_of}
+use Rattle.graph.proofs.Lists.{as_many, no_both, each, are_both}
 
 -- ---- names of a step
-
-pub are_both : {X D : Type 0} (Rel : X → D → Type 0) (xs ys : List X) (ds es : List D) → AreAll Rel xs ds → AreAll Rel ys es → AreAll Rel (xs ++ ys) (ds ++ es)
-are_both Rel [] ys [] es one two = two
-are_both Rel [] ys (d ∷ ds) es one two = absurd one
-are_both Rel (x ∷ xs) ys [] es one two = absurd one
-are_both Rel (x ∷ xs) ys (d ∷ ds) es one two = (one.0, are_both Rel xs ys ds es one.1 two)
-
-pub many_mapped : {X Y : Type 0} (f : X → Y) (xs : List X) → length (map f xs) ≡ length xs
-many_mapped f [] = refl
-many_mapped f (x ∷ xs) = omega (arith, many_mapped f xs)
 
 texts_named : (those : List Named) → map (λ (it : Name). it.text.now) (map name_of those) ≡ map (λ (it : Named). it.0) those
 texts_named [] = refl
@@ -59,8 +50,6 @@ both_named one two texts all =
 
 not_repeated : (before texts : List Text) (those : List Named) → AreAll Bears texts those → Apart is_text texts → Clear is_text before texts → repeated before (map name_of those) ≡ []
 not_repeated before [] [] all apart clear = refl
-not_repeated before [] (it ∷ those) all apart clear = absurd all
-not_repeated before (text ∷ texts) [] all apart clear = absurd all
 not_repeated before (text ∷ texts) (it ∷ those) all apart clear =
     let here : AllByRecursion (λ other. is_text it.0 other ≡ false) before = subst (λ (t : Text). AllByRecursion (λ other. is_text t other ≡ false) before) (sym all.0.same) clear.0 in
     let first : fault_if (has before (name_of it)) Redeclared it.1 ≡ [] = ap (λ (o : Option ℕ). fault_if (is_some o) Redeclared it.1) (nowhere before it.0 here) in
@@ -68,11 +57,7 @@ not_repeated before (text ∷ texts) (it ∷ those) all apart clear =
     let more : repeated (before ++ it.0 ∷ []) (map name_of those) ≡ [] =
     ap (λ (l : List Text). repeated l (map name_of those)) same ∙ not_repeated (before ++ text ∷ []) texts those all.1 apart.1 (one_before before text texts clear.1 apart.0) in
     ap (λ (l : List At). l ++ repeated (before ++ it.0 ∷ []) (map name_of those)) first ∙ more
-
-take_each : (P : Text → Type 0) (count : ℕ) (texts : List Text) → AllByRecursion P texts → AllByRecursion P (take count texts)
-take_each P zero texts all = tt
-take_each P (suc count) [] all = tt
-take_each P (suc count) (text ∷ texts) all = (all.0, take_each P count texts all.1)
+not_repeated _ _ _ all _ _ = absurd (assumption)
 
 drop_each : (P : Text → Type 0) (count : ℕ) (texts : List Text) → AllByRecursion P texts → AllByRecursion P (drop count texts)
 drop_each P zero texts all = all
@@ -99,11 +84,8 @@ pub record IsGood (g : Graph) (step : Step) : Type 0 where
   pub of_graph : IsOfGraph g step
   pub textual : IsTextStep step
 
--- what is known of the derivation of a printed step
-pub record DerivedStep (g : Graph) (step : Step) (text : StepText) : Type 0 where
-  pub limits : step_limits text ≡ []
-  pub value : NamedStep
-  pub is : IsStep text value
+-- a step of the tree, and the step of the graph that it is
+pub record Shown (g : Graph) (value : NamedStep) (step : Step) : Type 0 where
   pub name : text_of value.name ≡ step.name
   pub names : step.names ≡ names_of value
   pub parameters : step.parameters ≡ length value.parameters.items
@@ -111,6 +93,13 @@ pub record DerivedStep (g : Graph) (step : Step) (text : StepText) : Type 0 wher
   pub write : IsBlock (names_of value) (sheet_of g step) value.write step.body.write
   pub keeps : BodyKeepsTo (sheet_of g step) step.body
   pub once : repeated [] (value.parameters.items ++ value.variables.items) ≡ []
+
+-- what is known of the derivation of a printed step
+pub record DerivedStep (g : Graph) (step : Step) (text : StepText) : Type 0 where
+  pub limits : step_limits text ≡ []
+  pub value : NamedStep
+  pub is : IsStep text value
+  pub shown : Shown g value step
 
 module _ (g : Graph) (items : AreFew g.items) (tags : AreFew g.tags) (item_names : AreNames (names_in g.items)) (tag_names : AreNames (names_in g.tags)) where
   pub step_printed : (step : Step) (place : ℕ) → IsGood g step → OnePrinted never (step_text g) step_pieces (DerivedStep g) place step
@@ -141,11 +130,11 @@ module _ (g : Graph) (items : AreFew g.items) (tags : AreFew g.tags) (item_names
       let two : List Named = all_names variables.names in
       let whole : inputs ++ locals ≡ step.names = take-append-drop step.parameters step.names in
       let bear : AreAll Bears step.names (one ++ two) = subst (λ (l : List Text). AreAll Bears l (one ++ two)) whole (are_both Bears inputs locals one two parameters.related variables.related) in
-      let many : length (one ++ two) ≡ length step.names = sym (related_lengths Bears step.names (one ++ two) bear) in
-      let few : length one ≡ step.parameters = sym (related_lengths Bears inputs one parameters.related) ∙ length-take-le step.parameters step.names good.of_graph.parameters in
+      let many : length (one ++ two) ≡ length step.names = (as_many Bears step.names (one ++ two) bear) in
+      let few : length one ≡ step.parameters = (as_many Bears inputs one parameters.related) ∙ length-take-le step.parameters step.names good.of_graph.parameters in
       let named_all : map (λ (it : Name). it.text.now) (map name_of one ++ map name_of two) ≡ step.names = both_named one two step.names bear in
-      let many_one : length (map name_of one) ≡ length one = many_mapped name_of one in
-      let many_two : length (map name_of two) ≡ length two = many_mapped name_of two in
+      let many_one : length (map name_of one) ≡ length one = length-map one name_of in
+      let many_two : length (map name_of two) ≡ length two = length-map two name_of in
       let sum : length (one ++ two) ≡ length one + length two = length-append one two in
       let no_names = no_both _ _ (no_both _ _ (no_both _ _ (no_name_limit step.name (place + 5) good.textual.name) (no_limits_of step.names (one ++ two) bear))
       (none_behind MAX_COMPONENTS one (omega (arith, few, good.textual.few)))) (none_behind MOST_NAMES (one ++ two) (omega (arith, many, good.of_graph.names))) in
@@ -165,13 +154,15 @@ module _ (g : Graph) (items : AreFew g.items) (tags : AreFew g.tags) (item_names
           limits = no_both _ _ (no_both _ _ no_names read.limits) write.limits;
           value = value;
           is = record { name = (refl, refl); parameters = names_of_all one; variables = names_of_all two; read = read.is; write = write.is };
-          name = refl;
-          names = sym named_all;
-          parameters = omega (arith, many_one, few);
-          read = subst (λ (l : List Text). IsBlock l (sheet_of g step) read.value step.body.read) (sym named_all) read.resolves;
-          write = subst (λ (l : List Text). IsBlock l (sheet_of g step) write.value step.body.write) (sym named_all) write.resolves;
-          keeps = good.of_graph.keeps;
-          once = ap (λ (l : List Name). repeated [] l) (sym (map-append name_of one two))
-              ∙ not_repeated [] step.names (one ++ two) bear (apart step.names good.textual.names.distinct) (each (λ text. AllByRecursion (λ other. is_text text other ≡ false) []) (λ text. tt) step.names);
+          shown = record {
+            name = refl;
+            names = sym named_all;
+            parameters = omega (arith, many_one, few);
+            read = subst (λ (l : List Text). IsBlock l (sheet_of g step) read.value step.body.read) (sym named_all) read.resolves;
+            write = subst (λ (l : List Text). IsBlock l (sheet_of g step) write.value step.body.write) (sym named_all) write.resolves;
+            keeps = good.of_graph.keeps;
+            once = ap (λ (l : List Name). repeated [] l) (sym (map-append name_of one two))
+                ∙ not_repeated [] step.names (one ++ two) bear (apart step.names good.textual.names.distinct) (each (λ text. AllByRecursion (λ other. is_text text other ≡ false) []) (λ text. tt) step.names);
+          };
         };
       }

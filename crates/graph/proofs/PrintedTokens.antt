@@ -1,14 +1,14 @@
 -- A text that is printed token by token: which tokens it is, wherever it is and whatever is printed after it.
-use Rattle.std.proofs.Common.{◌≡◌, ◌≢◌, ℕ, ◌+◌, ◌-◌, ◌<◌, ◌≤◌, Bool, true, false, ◌||◌, ◌==◌, List, [], ◌∷◌, ◌++◌, length, codes, refl, sym, ap, subst, ◌∙◌, arith, lit≤, lit<, append_assoc, length-append}
+use Rattle.std.proofs.Common.{◌≡◌, ◌≢◌, ℕ, ◌+◌, ◌-◌, ◌<◌, ◌≤◌, Bool, true, false, ◌||◌, ◌==◌, List, [], ◌∷◌, ◌++◌, length, codes, refl, sym, ap, subst, ◌∙◌, arith, append_assoc, length-append}
 use Rattle.std.specs.Prelude.{⊤}
 use Rattle.std.specs.List.{AllByRecursion}
 use Rattle.std.proofs.lemmas.List.{append-nil}
-use Rattle.std.proofs.lemmas.Bool.{false≢true}
 use Rattle.std.proofs.lemmas.Bool.Decides.{nat_tests}
 use Rattle.syntax.specs.declared.token.Symbol.{Symbol}
-use Rattle.syntax.specs.declared.token.Symbol.TheVariants.{DoubleColon, Arrow, DoubleDot, Equal, NotEqual, LessOrEqual, GreaterOrEqual}
+use Rattle.syntax.specs.declared.token.Symbol.TheVariants.{DoubleColon}
 use Rattle.syntax.specs.Tokens.{AreBlank, AreDigits, AreTokens, Begins, BeginsWithout, IsWordText, Lexeme, name, number, word, symbol, unknown, Spot, Stands, is_blank, is_letter, is_digit, symbol_text, word_text}
 use Rattle.syntax.specs.Spelled.{Piece, IsPiece, ArePieces}
+use Rattle.graph.proofs.Lists.{each_of_both, each_weaker}
 
 -- ---- what may not follow a token
 
@@ -37,15 +37,10 @@ pub record Printed (stop : ℕ → Bool) (place : ℕ) (text : List ℕ) (pieces
   pub are : ArePieces pieces spots
   pub ascii : AllByRecursion (λ byte. byte < 128) text
 
-both_ascii : (a b : List ℕ) → AllByRecursion (λ byte. byte < 128) a → AllByRecursion (λ byte. byte < 128) b → AllByRecursion (λ byte. byte < 128) (a ++ b)
-both_ascii [] b one two = two
-both_ascii (first ∷ a) b one two = (one.0, both_ascii a b one.1 two)
-
 both_pieces : (p q : List Piece) (s r : List Spot) → ArePieces p s → ArePieces q r → ArePieces (p ++ q) (s ++ r)
 both_pieces [] q [] r one two = two
-both_pieces [] q (spot ∷ s) r one two = absurd one
-both_pieces (piece ∷ p) q [] r one two = absurd one
 both_pieces (piece ∷ p) q (spot ∷ s) r one two = (one.0, both_pieces p q s r one.1 two)
+both_pieces _ _ _ _ one _ = absurd (assumption)
 
 -- one after the other
 pub behind : {stop other : ℕ → Bool} {place : ℕ} {a b : List ℕ} {p q : List Piece} → Printed stop place a p → Printed other (place + length a) b q
@@ -59,7 +54,7 @@ behind {stop} {other} {place} {a} {b} {p} {q} one two border = record {
       subst (λ (t : List ℕ). AreTokens place t ((one.spots ++ two.spots) ++ more)) (sym (append_assoc a b rest))
       (subst (λ (s : List Spot). AreTokens place (a ++ (b ++ rest)) s) (sym (append_assoc one.spots two.spots more)) whole);
   are = both_pieces p q one.spots two.spots one.are two.are;
-  ascii = both_ascii a b one.ascii two.ascii;
+  ascii = each_of_both (λ byte. byte < 128) a b one.ascii two.ascii;
 }
 
 -- after a text that anything may follow
@@ -77,42 +72,30 @@ whole {stop} {text} same one same_spots =
 
 -- ---- blanks
 
-both_blank : (a b : List ℕ) → AreBlank a → AreBlank b → AreBlank (a ++ b)
-both_blank [] b one two = two
-both_blank (first ∷ a) b one two = (one.0, both_blank a b one.1 two)
-
 blanks_first : (place : ℕ) (blanks rest : List ℕ) (more : List Spot) → AreBlank blanks → AreTokens (place + length blanks) rest more → AreTokens place (blanks ++ rest) more
-blanks_first place blanks rest [] blank next = both_blank blanks rest blank next
+blanks_first place blanks rest [] blank next = each_of_both (λ byte. is_blank byte ≡ true) blanks rest blank next
 blanks_first place blanks rest (spot ∷ more) blank next = (
   blanks ++ next.0,
   next.1,
   next.2,
   ap (λ (r : List ℕ). blanks ++ r) next.3 ∙ sym (append_assoc blanks next.0 next.1),
-  both_blank blanks next.0 blank next.4,
+  each_of_both (λ byte. is_blank byte ≡ true) blanks next.0 blank next.4,
   omega (arith, next.5, length-append blanks next.0),
   next.6,
   next.7,
 )
 
-blank_ascii : (byte : ℕ) → is_blank byte ≡ true → byte < 128
-blank_ascii byte h = grind (arith, nat_tests)
-
 blanks_ascii : (blanks : List ℕ) → AreBlank blanks → AllByRecursion (λ byte. byte < 128) blanks
-blanks_ascii [] h = tt
-blanks_ascii (first ∷ rest) h = (blank_ascii first h.0, blanks_ascii rest h.1)
+blanks_ascii blanks h = each_weaker (λ byte. is_blank byte ≡ true) (λ byte. byte < 128) (λ byte it. grind (arith, nat_tests)) blanks h
 
 pub blank : (place : ℕ) (blanks : List ℕ) → AreBlank blanks → Printed never place blanks []
 blank place blanks are_blank = record { spots = []; lexes = λ rest more may next. blanks_first place blanks rest more are_blank next; are = tt; ascii = blanks_ascii blanks are_blank }
-
-no_more_pieces : (p : List Piece) → p ++ [] ≡ p
-no_more_pieces [] = refl
-no_more_pieces (piece ∷ p) = ap (λ (q : List Piece). piece ∷ q) (no_more_pieces p)
 
 -- a text and blanks
 pub and_blanks : {stop : ℕ → Bool} {place : ℕ} {a : List ℕ} {p : List Piece} → Printed stop place a p → (blanks : List ℕ) → AreBlank blanks
     → ((rest : List ℕ) → BeginsWithout never rest → BeginsWithout stop (blanks ++ rest)) → Printed never place (a ++ blanks) p
 and_blanks {stop} {place} {a} {p} one blanks are_blank border =
-    subst (λ (q : List Piece). Printed never place (a ++ blanks) q) (no_more_pieces p) (behind one (blank (place + length a) blanks are_blank) border)
+    subst (λ (q : List Piece). Printed never place (a ++ blanks) q) (append-nil p) (behind one (blank (place + length a) blanks are_blank) border)
 
 pub and_space : {place : ℕ} {a : List ℕ} {p : List Piece} → Printed after_word place a p → Printed never place (a ++ codes " ") p
 and_space one = and_blanks one (codes " ") (refl, tt) (λ rest may. refl)
@@ -131,33 +114,19 @@ nothing place = blank place [] tt
 letter_ascii : (byte : ℕ) → is_letter byte ≡ true → byte < 128
 letter_ascii byte h = grind (arith, nat_tests)
 
-digit_ascii : (byte : ℕ) → is_digit byte ≡ true → byte < 128
-digit_ascii byte h = grind (arith, nat_tests)
-
 part_ascii : (byte : ℕ) → after_word byte ≡ true → byte < 128
 part_ascii byte h = grind (arith, nat_tests)
 
-parts_ascii : (bytes : List ℕ) → AllByRecursion (λ byte. (is_letter byte || is_digit byte) ≡ true) bytes → AllByRecursion (λ byte. byte < 128) bytes
-parts_ascii [] h = tt
-parts_ascii (first ∷ rest) h = (part_ascii first h.0, parts_ascii rest h.1)
-
 word_ascii : (bytes : List ℕ) → IsWordText bytes → AllByRecursion (λ byte. byte < 128) bytes
 word_ascii [] h = tt
-word_ascii (first ∷ rest) h = (letter_ascii first h.0, parts_ascii rest h.1)
+word_ascii (first ∷ rest) h = (letter_ascii first h.0, each_weaker (λ byte. (is_letter byte || is_digit byte) ≡ true) (λ byte. byte < 128) part_ascii rest h.1)
 
 digits_ascii : (bytes : List ℕ) → AreDigits bytes → AllByRecursion (λ byte. byte < 128) bytes
-digits_ascii [] h = tt
-digits_ascii (first ∷ rest) h = (digit_ascii first h.0, digits_ascii rest h.1)
+digits_ascii digits h = each_weaker (λ byte. is_digit byte ≡ true) (λ byte. byte < 128) (λ byte it. grind (arith, nat_tests)) digits h
 
 sign_ascii : (sign : Symbol) → AllByRecursion (λ byte. byte < 128) (symbol_text sign)
-sign_ascii DoubleColon = (lit< tt, (lit< tt, tt))
-sign_ascii Arrow = (lit< tt, (lit< tt, tt))
-sign_ascii DoubleDot = (lit< tt, (lit< tt, tt))
-sign_ascii Equal = (lit< tt, (lit< tt, tt))
-sign_ascii NotEqual = (lit< tt, (lit< tt, tt))
-sign_ascii LessOrEqual = (lit< tt, (lit< tt, tt))
-sign_ascii GreaterOrEqual = (lit< tt, (lit< tt, tt))
-sign_ascii _ = (lit< tt, tt)
+sign_ascii DoubleColon = omega arith
+sign_ascii _ = omega arith
 
 -- a text that is none of the tokens
 abbrev pub IsProper : Lexeme → Type 0
@@ -199,61 +168,35 @@ one_token stop place text lexeme piece proper is stands = record {
 abbrev pub leads : ℕ → Bool
 leads first = ((first == 58) || ((first == 45) || (first == 46))) || (((first == 61) || (first == 33)) || ((first == 60) || (first == 62)))
 
-heads : {c d : ℕ} {r s : List ℕ} → c ∷ r ≡ d ∷ s → c ≡ d
-heads e = cc
-
-never_leads : (first second half : ℕ) (rest more : List ℕ) → leads first ≡ false → leads half ≡ true → first ∷ rest ≡ half ∷ second ∷ more → ⊥
-never_leads first second half rest more h k e = let same : first ≡ half = heads e in false≢true (sym h ∙ (ap leads same ∙ k))
-
-never_follows : (first second half : ℕ) (rest more : List ℕ) → BeginsWithout after_sign rest → after_sign second ≡ true → first ∷ rest ≡ half ∷ second ∷ more → ⊥
-never_follows first second half [] more h k e = absurd (cc)
-never_follows first second half (next ∷ rest) more h k e = let same : next ≡ second = cc in false≢true (sym h ∙ (ap after_sign same ∙ k))
-
 closed_longest : (first : ℕ) (rest : List ℕ) → leads first ≡ false → (other : Symbol) → Begins (symbol_text other) (first ∷ rest) → length (symbol_text other) ≤ 1
-closed_longest first rest h DoubleColon b = absurd (never_leads first 58 58 rest b.0 h refl b.1)
-closed_longest first rest h Arrow b = absurd (never_leads first 62 45 rest b.0 h refl b.1)
-closed_longest first rest h DoubleDot b = absurd (never_leads first 46 46 rest b.0 h refl b.1)
-closed_longest first rest h Equal b = absurd (never_leads first 61 61 rest b.0 h refl b.1)
-closed_longest first rest h NotEqual b = absurd (never_leads first 61 33 rest b.0 h refl b.1)
-closed_longest first rest h LessOrEqual b = absurd (never_leads first 61 60 rest b.0 h refl b.1)
-closed_longest first rest h GreaterOrEqual b = absurd (never_leads first 61 62 rest b.0 h refl b.1)
-closed_longest first rest h _ b = lit≤ tt
+closed_longest first rest h DoubleColon b = grind (arith, nat_tests)
+closed_longest first rest h _ b = grind (arith, nat_tests)
 
 open_longest : (first : ℕ) (rest : List ℕ) → first ≢ 46 → BeginsWithout after_sign rest → (other : Symbol) → Begins (symbol_text other) (first ∷ rest) → length (symbol_text other) ≤ 1
-open_longest first rest dot h DoubleColon b = absurd (never_follows first 58 58 rest b.0 h refl b.1)
-open_longest first rest dot h Arrow b = absurd (never_follows first 62 45 rest b.0 h refl b.1)
-open_longest first rest dot h DoubleDot b = absurd (dot (heads b.1))
-open_longest first rest dot h Equal b = absurd (never_follows first 61 61 rest b.0 h refl b.1)
-open_longest first rest dot h NotEqual b = absurd (never_follows first 61 33 rest b.0 h refl b.1)
-open_longest first rest dot h LessOrEqual b = absurd (never_follows first 61 60 rest b.0 h refl b.1)
-open_longest first rest dot h GreaterOrEqual b = absurd (never_follows first 61 62 rest b.0 h refl b.1)
-open_longest first rest dot h _ b = lit≤ tt
+open_longest first [] dot h DoubleColon b = grind (arith, nat_tests)
+open_longest first [] dot h _ b = grind (arith, nat_tests)
+open_longest first (next ∷ rest) dot h DoubleColon b = grind (arith, nat_tests)
+open_longest first (next ∷ rest) dot h _ b = grind (arith, nat_tests)
 
 double_longest : (other : Symbol) → length (symbol_text other) ≤ 2
-double_longest DoubleColon = lit≤ tt
-double_longest _ = lit≤ tt
+double_longest DoubleColon = omega arith
+double_longest _ = omega arith
+
+-- a sign that is the longest where it stands
+sign_token : (stop : ℕ → Bool) (place : ℕ) (text : List ℕ) (sign : Symbol) (piece : Piece) → IsPiece piece (symbol sign, place) → symbol_text sign ≡ text
+    → ((rest : List ℕ) → BeginsWithout stop rest → (other : Symbol) → Begins (symbol_text other) (text ++ rest) → length (symbol_text other) ≤ length text) → Printed stop place text (piece ∷ [])
+sign_token stop place text sign piece is same longest =
+    one_token stop place text (symbol sign) piece tt is (λ rest may. (ap (λ (t : List ℕ). t ++ rest) (sym same), λ other begins. subst (λ (t : List ℕ). length (symbol_text other) ≤ length t) (sym same) (longest rest may other begins)))
 
 -- a sign of one character that begins no longer one
 pub closed_sign : (place first : ℕ) (sign : Symbol) (piece : Piece) → IsPiece piece (symbol sign, place) → symbol_text sign ≡ first ∷ [] → leads first ≡ false → Printed never place (first ∷ []) (piece ∷ [])
-closed_sign place first sign piece is same h =
-    one_token never place (first ∷ []) (symbol sign) piece tt is (λ rest may. (
-      ap (λ (t : List ℕ). t ++ rest) (sym same),
-      λ other begins. subst (λ (t : List ℕ). length (symbol_text other) ≤ length t) (sym same) (closed_longest first rest h other begins),
-    ))
+closed_sign place first sign piece is same h = sign_token never place (first ∷ []) sign piece is same (λ rest may. closed_longest first rest h)
 
 -- a sign of one character that begins a longer one
 pub open_sign : (place first : ℕ) (sign : Symbol) (piece : Piece) → IsPiece piece (symbol sign, place) → symbol_text sign ≡ first ∷ [] → first ≢ 46 → Printed after_sign place (first ∷ []) (piece ∷ [])
-open_sign place first sign piece is same dot =
-    one_token after_sign place (first ∷ []) (symbol sign) piece tt is (λ rest may. (
-      ap (λ (t : List ℕ). t ++ rest) (sym same),
-      λ other begins. subst (λ (t : List ℕ). length (symbol_text other) ≤ length t) (sym same) (open_longest first rest dot may other begins),
-    ))
+open_sign place first sign piece is same dot = sign_token after_sign place (first ∷ []) sign piece is same (λ rest may. open_longest first rest dot may)
 
 -- a sign of two characters
 pub double_sign : (place first second : ℕ) (sign : Symbol) (piece : Piece) → IsPiece piece (symbol sign, place) → symbol_text sign ≡ first ∷ second ∷ []
     → Printed never place (first ∷ second ∷ []) (piece ∷ [])
-double_sign place first second sign piece is same =
-    one_token never place (first ∷ second ∷ []) (symbol sign) piece tt is (λ rest may. (
-      ap (λ (t : List ℕ). t ++ rest) (sym same),
-      λ other begins. subst (λ (t : List ℕ). length (symbol_text other) ≤ length t) (sym same) (double_longest other),
-    ))
+double_sign place first second sign piece is same = sign_token never place (first ∷ second ∷ []) sign piece is same (λ rest may other begins. double_longest other)

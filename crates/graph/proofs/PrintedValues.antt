@@ -1,6 +1,6 @@
 -- The Rust values that a tree is made of, at no particular place in memory.
 use Rattle.std.proofs.Common.{◌^◌, ◌<◌, List, length, refl, arith}
-use Rattle.std.specs.Prelude.{Box, Vec}
+use Rattle.std.specs.Prelude.{Vec}
 use Rattle.std.specs.declared.alloc.Global.{Global}
 use denote.RawPtr.{null_ptr}
 use Rattle.steptree.specs.declared.step.Name.{Name}
@@ -9,9 +9,6 @@ use Rattle.syntax.specs.Tree.{IsName}
 
 abbrev heap : Global
 heap = record { memory = record { seal = tt } }
-
-abbrev pub boxed : Box (Unit {0}) Global
-boxed = record { ptr = null_ptr; alloc = heap; value = tt }
 
 -- a vector of these
 abbrev pub vec_of : {X : Type 0} (items : List X) → length items < 2 ^ 63 → Vec X Global

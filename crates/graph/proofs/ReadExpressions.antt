@@ -2,18 +2,16 @@
 use Rattle.std.proofs.Common.{◌≡◌, ◌≤◌, ◌<◌, ℕ, suc, max, List, [], ◌∷◌, ◌++◌, length, Some, refl, sym, ap, subst, ◌∙◌}
 use Rattle.std.specs.List.{flat_map}
 use Rattle.std.proofs.lemmas.Option.{slice_get_within}
-use Rattle.steptree.specs.declared.expression.Expression.{Expression}
+use Rattle.steptree.specs.Tree.{Expression, NamedExpression, Number, Variable, Negation, Operation}
 use Rattle.steptree.specs.Tree as tree
 use Rattle.steptree.specs.declared.step.Name.{Name}
-use Rattle.steptree.specs.declared.step.NamedExpression.{NamedExpression}
-use Rattle.steptree.specs.declared.step.NamedExpression.TheVariants.{Number, Variable, Negation', Operation'}
 use Rattle.steptree.specs.Names.{Text, slot_of}
 use Rattle.steptree.specs.Resolved.{IsExpression, AreExpressions}
 use Rattle.syntax.specs.declared.token.Symbol.TheVariants as sign
 use Rattle.syntax.specs.declared.limits.TheConstants.{MOST_DEPTH}
 use Rattle.syntax.specs.Grammar.{Position, Expr, sum_alone, compared, Sum, prod_alone, added, Prod, unary_alone, multiplied, Unary, negated, literal, variable, bracketed, Sums, no_sums, sums}
 use Rattle.syntax.specs.Limits.{expr_depth, sum_depth, prod_depth, unary_depth, expr_first, sum_first, expr_within, sum_within, depth_limits, expr_limits, sum_limits, sums_limits}
-use Rattle.syntax.specs.Spelled.{Piece, comparison_sign, addition_sign, multiplication_sign, a_sign, expr_pieces, sum_pieces, prod_pieces, unary_pieces, sums_pieces}
+use Rattle.syntax.specs.Spelled.{Piece, a_sign, expr_pieces, sum_pieces, prod_pieces, unary_pieces, sums_pieces}
 use Rattle.syntax.specs.Tree.{AreAll, IsExpr, IsSum, IsProd, IsUnary, AreSums}
 use Rattle.graph.specs.Textual.{depth_of, IsSpelled, IsTextExpression, AreComponents}
 use Rattle.graph.proofs.Faultless.{first_empty, second_empty}
@@ -31,47 +29,33 @@ module _ (names : List Text) where
   mutual
     expr_read : (expr : Expr) (it : NamedExpression) (e : Expression) → AreSound (expr_pieces expr) → IsExpr expr it → IsExpression names it e → IsRead e (expr_depth expr)
     expr_read (sum_alone sum) it e sound is means = sum_read sum it e sound is means
-    expr_read (compared left how right) (Operation' _ _ it other) (tree.Operation _ e f) sound is means =
-        let head = a_sign (comparison_sign how) in
-        let one = sum_read left it e (front (sum_pieces left) head (front (sum_pieces left ++ head) (sum_pieces right) sound)) is.1 means.1 in
-        let two = sum_read right other f (rear (sum_pieces left ++ head) (sum_pieces right) sound) is.2 means.2 in
+    expr_read (compared left how right) (Operation _ it other) (tree.Operation _ e f) sound is means =
+        let one = sum_read left it e (search (front, rear)) is.1 means.1 in let two = sum_read right other f (search (front, rear)) is.2 means.2 in
         ((one.0, two.0), λ i. suc (max (one.1 i) (two.1 i)))
-    expr_read (compared left how right) (Operation' _ _ it other) _ sound is means = absurd means
-    expr_read (compared left how right) _ e sound is means = absurd is
+    expr_read _ _ _ _ is means = absurd (assumption)
 
     sum_read : (sum : Sum) (it : NamedExpression) (e : Expression) → AreSound (sum_pieces sum) → IsSum sum it → IsExpression names it e → IsRead e (sum_depth sum)
     sum_read (prod_alone prod) it e sound is means = prod_read prod it e sound is means
-    sum_read (added left how right) (Operation' _ _ it other) (tree.Operation _ e f) sound is means =
-        let head = a_sign (addition_sign how) in
-        let one = sum_read left it e (front (sum_pieces left) head (front (sum_pieces left ++ head) (prod_pieces right) sound)) is.1 means.1 in
-        let two = prod_read right other f (rear (sum_pieces left ++ head) (prod_pieces right) sound) is.2 means.2 in
+    sum_read (added left how right) (Operation _ it other) (tree.Operation _ e f) sound is means =
+        let one = sum_read left it e (search (front, rear)) is.1 means.1 in let two = prod_read right other f (search (front, rear)) is.2 means.2 in
         ((one.0, two.0), λ i. suc (max (one.1 i) (two.1 i)))
-    sum_read (added left how right) (Operation' _ _ it other) _ sound is means = absurd means
-    sum_read (added left how right) _ e sound is means = absurd is
+    sum_read _ _ _ _ is means = absurd (assumption)
 
     prod_read : (prod : Prod) (it : NamedExpression) (e : Expression) → AreSound (prod_pieces prod) → IsProd prod it → IsExpression names it e → IsRead e (prod_depth prod)
     prod_read (unary_alone unary) it e sound is means = unary_read unary it e sound is means
-    prod_read (multiplied left how right) (Operation' _ _ it other) (tree.Operation _ e f) sound is means =
-        let head = a_sign (multiplication_sign how) in
-        let one = prod_read left it e (front (prod_pieces left) head (front (prod_pieces left ++ head) (unary_pieces right) sound)) is.1 means.1 in
-        let two = unary_read right other f (rear (prod_pieces left ++ head) (unary_pieces right) sound) is.2 means.2 in
+    prod_read (multiplied left how right) (Operation _ it other) (tree.Operation _ e f) sound is means =
+        let one = prod_read left it e (search (front, rear)) is.1 means.1 in let two = unary_read right other f (search (front, rear)) is.2 means.2 in
         ((one.0, two.0), λ i. suc (max (one.1 i) (two.1 i)))
-    prod_read (multiplied left how right) (Operation' _ _ it other) _ sound is means = absurd means
-    prod_read (multiplied left how right) _ e sound is means = absurd is
+    prod_read _ _ _ _ is means = absurd (assumption)
 
     unary_read : (unary : Unary) (it : NamedExpression) (e : Expression) → AreSound (unary_pieces unary) → IsUnary unary it → IsExpression names it e → IsRead e (unary_depth unary)
-    unary_read (negated position unary) (Negation' _ it) (tree.Negation e) sound is means =
+    unary_read (negated position unary) (Negation it) (tree.Negation e) sound is means =
         let one = unary_read unary it e sound.1 is means in
         (one.0, ap suc one.1)
-    unary_read (negated position unary) (Negation' _ it) _ sound is means = absurd means
-    unary_read (negated position unary) _ e sound is means = absurd is
     unary_read (literal position value) (Number m) (tree.Number n) sound is means = ((value, means ∙ is, sound.0), refl)
-    unary_read (literal position value) (Number m) _ sound is means = absurd means
-    unary_read (literal position value) _ e sound is means = absurd is
     unary_read (variable it) (Variable name) (tree.Variable slot) sound is means = (slot_within name slot means, refl)
-    unary_read (variable it) (Variable name) _ sound is means = absurd means
-    unary_read (variable it) _ e sound is means = absurd is
-    unary_read (bracketed position expr) it e sound is means = expr_read expr it e (front (expr_pieces expr) (a_sign sign.CloseRound) sound.1) is means
+    unary_read (bracketed position expr) it e sound is means = expr_read expr it e (search front) is means
+    unary_read _ _ _ _ is means = absurd (assumption)
 
   -- no deeper than an expression may be
   shallow : (e : Expression) (depth : ℕ) (first : Position) (within : List Position) → IsRead e depth → depth_limits depth first ++ within ≡ [] → IsTextExpression (length names) e
@@ -90,14 +74,9 @@ module _ (names : List Text) where
 
   more_read : (more : List Sum) (them : List NamedExpression) (es : List Expression) → AreSound (flat_map comma more) → flat_map sum_limits more ≡ [] → AreAll IsSum more them → AreExpressions names them es → AreComponents (length names) es
   more_read [] [] [] sound none are means = tt
-  more_read [] [] (e ∷ es) sound none are means = absurd means
-  more_read [] (it ∷ them) es sound none are means = absurd are
-  more_read (sum ∷ more) [] es sound none are means = absurd are
-  more_read (sum ∷ more) (it ∷ them) [] sound none are means = absurd means
-  more_read (sum ∷ more) (it ∷ them) (e ∷ es) sound none are means = (
-    component_read sum it e (front (comma sum) (flat_map comma more) sound).1 (first_empty (sum_limits sum) (flat_map sum_limits more) none) are.0 means.0,
-    more_read more them es (rear (comma sum) (flat_map comma more) sound) (second_empty (sum_limits sum) (flat_map sum_limits more) none) are.1 means.1,
-  )
+  more_read (sum ∷ more) (it ∷ them) (e ∷ es) sound none are means =
+      (component_read sum it e (search (front, rear)) (search first_empty) are.0 means.0, more_read more them es (search (front, rear)) (search second_empty) are.1 means.1)
+  more_read _ _ _ _ _ are means = absurd (assumption)
 
   none_read : (them : List NamedExpression) (es : List Expression) → them ≡ [] → AreExpressions names them es → AreComponents (length names) es
   none_read [] [] none means = tt
@@ -106,10 +85,6 @@ module _ (names : List Text) where
 
   pub components_read : (parts : Sums) (them : List NamedExpression) (es : List Expression) → AreSound (sums_pieces parts) → sums_limits parts ≡ [] → AreSums parts them → AreExpressions names them es → AreComponents (length names) es
   components_read no_sums them es sound none are means = none_read them es are means
-  components_read (sums first more) [] es sound none are means = absurd are
-  components_read (sums first more) (it ∷ them) [] sound none are means = absurd means
   components_read (sums first more) (it ∷ them) (e ∷ es) sound none are means =
-      let parts : AreSound (sum_pieces first ++ flat_map comma more) = sound.1 in (
-        component_read first it e (front (sum_pieces first) (flat_map comma more) parts) (first_empty (sum_limits first) (flat_map sum_limits more) none) are.0 means.0,
-        more_read more them es (rear (sum_pieces first) (flat_map comma more) parts) (second_empty (sum_limits first) (flat_map sum_limits more) none) are.1 means.1,
-      )
+      (component_read first it e (search (front, rear)) (search first_empty) are.0 means.0, more_read more them es (search (front, rear)) (search second_empty) are.1 means.1)
+  components_read _ _ _ _ _ are means = absurd (assumption)

@@ -3,7 +3,6 @@ use Rattle.std.proofs.Common.{◌≡◌, ℕ, suc, List, [], ◌∷◌, ◌++◌
 use Rattle.std.specs.List.{AllByRecursion, IsDistinct, flat_map}
 use Rattle.std.specs.Str.{bytes_eq}
 use Rattle.std.proofs.lemmas.Option.{slice_get-get_or}
-use Rattle.terms.specs.declared.key.TheConstants.{MAX_COMPONENTS}
 use Rattle.steptree.specs.declared.sheet.TheConstants.{MOST_COLLECTIONS}
 use Rattle.steptree.specs.Names.{Text, place_of, names_in}
 use Rattle.syntax.specs.declared.limits.TheConstants.{MOST_NAME_BYTES}
@@ -12,7 +11,7 @@ use Rattle.syntax.specs.declared.tree.Declaration.{Declaration as Declared}
 use Rattle.syntax.specs.declared.tree.Declaration.TheVariants as declared
 use Rattle.syntax.specs.Tokens.{name}
 use Rattle.syntax.specs.Grammar.{Position, Named, Names, Declaration, item_declared, tag_declared}
-use Rattle.syntax.specs.Limits.{one_more, name_limits, names_behind, all_names, declared_limits, declarations_limits}
+use Rattle.syntax.specs.Limits.{one_more, name_limits, all_names, declared_limits, declarations_limits}
 use Rattle.syntax.specs.Spelled.{Piece, a_sign, named, names_pieces, parameters_pieces, variables_pieces, declaration_pieces}
 use Rattle.syntax.specs.Tree.{AreAll, IsDeclaration}
 use Rattle.graph.specs.Textual.{IsGraphName, AreNames}
@@ -45,12 +44,10 @@ comma it = a_sign sign.Comma ++ named it ∷ []
 
 more_read : (more : List Named) → AreSound (flat_map comma more) → flat_map name_limits more ≡ [] → AllByRecursion IsGraphName (texts_of more)
 more_read [] sound none = tt
-more_read (it ∷ more) sound none =
-    (name_read it sound.1.0 (first_empty (name_limits it) (flat_map name_limits more) none), more_read more sound.1.1 (second_empty (name_limits it) (flat_map name_limits more) none))
+more_read (it ∷ more) sound none = (name_read it sound.1.0 (search first_empty), more_read more sound.1.1 (search second_empty))
 
 names_read : (names : Names) → AreSound (names_pieces names) → flat_map name_limits (names.first ∷ names.more) ≡ [] → AllByRecursion IsGraphName (texts_of (names.first ∷ names.more))
-names_read names sound none =
-    (name_read names.first sound.0 (first_empty (name_limits names.first) (flat_map name_limits names.more) none), more_read names.more sound.1 (second_empty (name_limits names.first) (flat_map name_limits names.more) none))
+names_read names sound none = (name_read names.first sound.0 (search first_empty), more_read names.more sound.1 (search second_empty))
 
 pub parameters_read : (names : Option Names) → AreSound (parameters_pieces names) → flat_map name_limits (all_names names) ≡ [] → AllByRecursion IsGraphName (texts_of (all_names names))
 parameters_read None sound none = tt
@@ -63,26 +60,17 @@ variables_read (Some names) sound none = names_read names (front (names_pieces n
 -- ---- declarations
 
 declared_read : (it : Named) (components : Option Names) (before : ℕ) (rest : List Position) → IsSound (name it.0) → one_more MOST_COLLECTIONS before it.1 ++ declared_limits it components ++ rest ≡ [] → IsGraphName it.0
-declared_read it components before rest sound none =
-    let room = one_more MOST_COLLECTIONS before it.1 in
-    let own = second_empty room (declared_limits it components) (first_empty (room ++ declared_limits it components) rest none) in
-    let components_limits = flat_map name_limits (all_names components) in
-    name_read it sound (first_empty (name_limits it) components_limits (first_empty (name_limits it ++ components_limits) (names_behind MAX_COMPONENTS (all_names components)) own))
+declared_read it components before rest sound none = name_read it sound (search (first_empty, second_empty))
 
 pub declarations_read : (items tags : ℕ) (texts : List Declaration) (ds : List Declared) → AreSound (flat_map declaration_pieces texts) → declarations_limits items tags texts ≡ [] → AreAll IsDeclaration texts ds
     → AllByRecursion IsGraphName (names_in (items_of ds)) × AllByRecursion IsGraphName (names_in (tags_of ds))
 declarations_read items tags [] [] sound none are = (tt, tt)
-declarations_read items tags [] (d ∷ ds) sound none are = absurd are
-declarations_read items tags (text ∷ texts) [] sound none are = absurd are
 declarations_read items tags (item_declared it components ∷ texts) (declared.Item called number ∷ ds) sound none are =
-    let own = front (declaration_pieces (item_declared it components)) (flat_map declaration_pieces texts) sound in
-    let limits = one_more MOST_COLLECTIONS items it.1 ++ declared_limits it components in
-    let rest = declarations_read (suc items) tags texts ds (rear (declaration_pieces (item_declared it components)) (flat_map declaration_pieces texts) sound) (second_empty limits (declarations_limits (suc items) tags texts) none) are.1 in
+    let own : AreSound (declaration_pieces (item_declared it components)) = search front in
+    let rest = declarations_read (suc items) tags texts ds (search rear) (search second_empty) are.1 in
     ((subst IsGraphName (sym are.0.0.0) (declared_read it components items (declarations_limits (suc items) tags texts) own.1.0 none), rest.0), rest.1)
 declarations_read items tags (tag_declared it components ∷ texts) (declared.Tag called number ∷ ds) sound none are =
-    let own = front (declaration_pieces (tag_declared it components)) (flat_map declaration_pieces texts) sound in
-    let limits = one_more MOST_COLLECTIONS tags it.1 ++ declared_limits it components in
-    let rest = declarations_read items (suc tags) texts ds (rear (declaration_pieces (tag_declared it components)) (flat_map declaration_pieces texts) sound) (second_empty limits (declarations_limits items (suc tags) texts) none) are.1 in
+    let own : AreSound (declaration_pieces (tag_declared it components)) = search front in
+    let rest = declarations_read items (suc tags) texts ds (search rear) (search second_empty) are.1 in
     (rest.0, (subst IsGraphName (sym are.0.0.0) (declared_read it components tags (declarations_limits items (suc tags) texts) own.1.0 none), rest.1))
-declarations_read items tags (item_declared it components ∷ texts) (declared.Tag called number ∷ ds) sound none are = absurd are.0
-declarations_read items tags (tag_declared it components ∷ texts) (declared.Item called number ∷ ds) sound none are = absurd are.0
+declarations_read _ _ _ _ _ _ are = absurd (assumption)

@@ -1,269 +1,165 @@
 -- Adding a relation between a step and items or tags, or with the environment.
-use Rattle.std.proofs.Common.{◌≡◌, ℕ, Bool, true, List, [], ◌∷◌, ◌++◌, get_or, Some, Option, refl, sym, ap, subst, ◌∙◌, is_some}
+use Rattle.std.proofs.Common.{◌≡◌, ℕ, Bool, ◌&&◌, List, [], ◌∷◌, ◌++◌, Option, refl, sym, ap, subst, ◌∙◌, is_some, not, false, arith}
 use Rattle.std.specs.Prelude.{Result, OnOk, is_none, Vec}
 use Rattle.std.specs.List.{list_any}
+use Rattle.std.proofs.Math.Bool.{and_comm}
+use Rattle.std.specs.declared.alloc.Global.{Global}
 use Rattle.steptree.specs.Names.{Text, is_text, place_of}
 use Rattle.steptree.specs.declared.step.Name.{Name}
 use Rattle.syntax.specs.declared.tree.Relation.{Relation}
 use Rattle.syntax.specs.declared.tree.Relation.TheVariants as related
+use Rattle.terms.specs.declared.name.TagCollection.{TagCollection}
+use Rattle.graph.specs.declared.fault.GraphError.{GraphError}
 use Rattle.graph.specs.declared.fault.GraphError.TheVariants.{Redeclared, UnknownName, StepMissing, TwoPrescribers}
 use Rattle.graph.specs.declared.fault.PlacedFault.{PlacedFault}
 use Rattle.graph.specs.declared.relations.Relations.{Relations}
-use Rattle.graph.specs.Faults.{At, fault_if, or_else, same_relation, again, unknown, missing, relation_fault, prescribed_before}
+use Rattle.graph.specs.Faults.{fault_if, or_else, has, same_relation, again, unknown, missing, relation_fault, prescribed_before}
 use Rattle.graph.specs.Marks.{mark_at, mark_between, with_mark, with_mark_between, AreMarks, AreRows, ArePrescribers, prescriber_at, with_prescriber, bits}
 use Rattle.graph.specs.Placed.{Reports}
-use Rattle.graph.specs.Relations.{AreRelations, Relates}
-use Rattle.graph.specs.Tree.{text_of, is_read, is_item_put, is_tag_put, is_environment_item_put, is_environment_tag_put, is_environment_get}
+use Rattle.graph.specs.Relations.{read_faults, put_faults, environment_faults, prescription_faults, AreRelations, Relates}
+use Rattle.graph.specs.Tree.{text_of, prescriber_of, is_read, is_item_put, is_tag_put, is_environment_item_put, is_environment_tag_put, is_environment_get}
+use Rattle.graph.proofs.Faultless.{first_empty, second_empty, first_none, not_so}
+use Rattle.graph.proofs.Lists.{any_agree}
 use Rattle.graph.proofs.Marks.{marks_stay, one_marked, rows_stay, two_marked}
 use Rattle.graph.proofs.Prescribers.{prescribers_stay, one_prescribed, both_there}
-use Rattle.graph.proofs.Relating.{any_same, swapped, in_vain, no_two, is_there, not_held, first_none, relates, same_read, same_item_put, same_tag_put, same_environment_item_put, same_environment_tag_put, same_environment_get}
-use Rattle.std.specs.declared.alloc.Global.{Global}
-use Rattle.terms.specs.declared.name.TagCollection.{TagCollection}
-use Rattle.std.proofs.Math.ListN.{set}
-use Rattle.std.proofs.lemmas.Result.{IfOk-weaker}
+use Rattle.graph.proofs.Relating.{marked_before, in_vain, is_there, relates}
+use Rattle.graph.proofs.Texts.{same_both_ways}
 
 module _ (items tags steps : List Text) (before : List Relation) (old : Relations) (are : AreRelations items tags steps before old) where
+  -- ---- a relation of another kind
+
+  reads_stay : (relation : Relation) → ((step name : Text) → is_read name step relation ≡ false) → AreRows (λ step item. is_read item step) steps items (before ++ relation ∷ []) (bits old.reads)
+  reads_stay relation other = rows_stay (λ step item. is_read item step) steps items before relation (bits old.reads) other are.reads
+
+  item_puts_stay : (relation : Relation) → ((step name : Text) → is_item_put step name relation ≡ false) → AreRows is_item_put steps items (before ++ relation ∷ []) (bits old.item_puts)
+  item_puts_stay relation other = rows_stay is_item_put steps items before relation (bits old.item_puts) other are.item_puts
+
+  tag_puts_stay : (relation : Relation) → ((step name : Text) → is_tag_put step name relation ≡ false) → AreRows is_tag_put steps tags (before ++ relation ∷ []) (bits old.tag_puts)
+  tag_puts_stay relation other = rows_stay is_tag_put steps tags before relation (bits old.tag_puts) other are.tag_puts
+
+  environment_items_stay : (relation : Relation) → ((name : Text) → is_environment_item_put name relation ≡ false) → AreMarks is_environment_item_put items (before ++ relation ∷ []) old.environment_item_puts.items
+  environment_items_stay relation other = marks_stay is_environment_item_put items before relation old.environment_item_puts.items other are.environment_item_puts
+
+  environment_tags_stay : (relation : Relation) → ((name : Text) → is_environment_tag_put name relation ≡ false) → AreMarks is_environment_tag_put tags (before ++ relation ∷ []) old.environment_tag_puts.items
+  environment_tags_stay relation other = marks_stay is_environment_tag_put tags before relation old.environment_tag_puts.items other are.environment_tag_puts
+
+  environment_gets_stay : (relation : Relation) → ((name : Text) → is_environment_get name relation ≡ false) → AreMarks is_environment_get items (before ++ relation ∷ []) old.environment_gets.items
+  environment_gets_stay relation other = marks_stay is_environment_get items before relation old.environment_gets.items other are.environment_gets
+
+  -- what a relation leaves as it was
+  ruleset kept = (prescribers_stay, reads_stay, item_puts_stay, tag_puts_stay, environment_items_stay, environment_tags_stay, environment_gets_stay)
+
+  -- ---- a relation between a step and another name
+
+  module _ (is : Text → Text → Relation → Bool) (names : List Text) (relation : Relation) (rows new : List (List Bool)) (step other : Name) (sp op : Option ℕ) (so_far : AreRows is steps names before rows)
+      (step_is : sp ≡ place_of steps (text_of step)) (other_is : op ≡ place_of names (text_of other)) where
+    -- its faults by the numbers of its names are those by the names, whichever of the two is looked up first
+    faults_told : ((one : Relation) → same_relation relation one ≡ is (text_of step) (text_of other) one) → (p : ℕ) (ones twos : List Text) (a b : Name) (x y : Option ℕ) (e f : GraphError)
+        → x ≡ place_of ones (text_of a) → y ≡ place_of twos (text_of b)
+        → fault_if (mark_between rows sp op) Redeclared p ++ fault_if (is_none x) e a.place ++ fault_if (is_none y) f b.place
+        ≡ again before relation p ++ fault_if (not (has ones a)) e a.place ++ fault_if (not (has twos b)) f b.place
+    faults_told same p ones twos a b x y e f one two =
+        let marked = marked_before is steps names before relation rows (text_of step) (text_of other) sp op so_far same step_is other_is in
+        λ i. fault_if (sym marked i) Redeclared p ++ in_vain x ones a e one i ++ in_vain y twos b f two i
+
+    -- the names are marked if both are there
+    row_marked : ((one two : Text) → is one two relation ≡ is_text (text_of step) one && is_text (text_of other) two) → fault_if (not (has steps step)) StepMissing step.place ≡ []
+        → fault_if (not (has names other)) UnknownName other.place ≡ [] → new ≡ with_mark_between rows sp op → AreRows is steps names (before ++ relation ∷ []) new
+    row_marked kind none nothing marked =
+        let row = is_there (place_of steps (text_of step)) StepMissing step.place none in
+        let place = is_there (place_of names (text_of other)) UnknownName other.place nothing in
+        subst (AreRows is steps names (before ++ relation ∷ [])) (sym (marked ∙ (λ i. with_mark_between rows ((step_is ∙ row.1) i) ((other_is ∙ place.1) i))))
+        (two_marked is steps names before relation rows (text_of step) (text_of other) row.0 place.0 row.1 place.1 kind so_far)
+
   pub read_relates : (p : ℕ) (a b : Name) (sp op : Option ℕ) (rows : Vec (Vec Bool Global) Global) (result : Result (Unit {0}) PlacedFault)
       → sp ≡ place_of steps (text_of b) → op ≡ place_of items (text_of a)
-      → Reports (fault_if (mark_between (bits old.reads) sp op) Redeclared p ++ fault_if (is_none op) UnknownName a.place ++ fault_if (is_none sp) StepMissing b.place) result
+      → Reports (read_faults (bits old.reads) p op a sp b) result
       → OnOk result (bits rows ≡ with_mark_between (bits old.reads) sp op)
       → Relates items tags steps before (related.Reads p a b) (record { prescribers = old.prescribers; reads = rows; item_puts = old.item_puts; tag_puts = old.tag_puts; environment_item_puts = old.environment_item_puts; environment_tag_puts = old.environment_tag_puts; environment_gets = old.environment_gets }) result
   read_relates p a b sp op rows result step_is other_is reports marked =
-      relates items tags steps before (related.Reads p a b) _ _ result faults reports (IfOk-weaker result _ _ (λ _. with_it) marked)
-    where
-      before_it : list_any (same_relation (related.Reads p a b)) before ≡ mark_between (bits old.reads) sp op
-      before_it = any_same (same_relation (related.Reads p a b)) (is_read (text_of a) (text_of b)) before (same_read a b p) ∙ are.reads.each (text_of b) (text_of a)
-          ∙ ap (λ (r : Option ℕ). mark_between (bits old.reads) r (place_of items (text_of a))) (sym step_is) ∙ ap (mark_between (bits old.reads) sp) (sym other_is)
-
-      faults : fault_if (mark_between (bits old.reads) sp op) Redeclared p ++ fault_if (is_none op) UnknownName a.place ++ fault_if (is_none sp) StepMissing b.place ≡ relation_fault items tags steps before (related.Reads p a b)
-      faults =
-          ap (λ (m : Bool). fault_if m Redeclared p ++ fault_if (is_none op) UnknownName a.place ++ fault_if (is_none sp) StepMissing b.place) (sym before_it)
-          ∙ ap (λ (l : List At). again before (related.Reads p a b) p ++ l ++ fault_if (is_none sp) StepMissing b.place) (in_vain op items a UnknownName other_is)
-          ∙ ap (λ (l : List At). again before (related.Reads p a b) p ++ unknown items a ++ l) (in_vain sp steps b StepMissing step_is)
-
-      with_it : bits rows ≡ with_mark_between (bits old.reads) sp op → relation_fault items tags steps before (related.Reads p a b) ≡ [] → AreRelations items tags steps (before ++ (related.Reads p a b) ∷ []) (record { prescribers = old.prescribers; reads = rows; item_puts = old.item_puts; tag_puts = old.tag_puts; environment_item_puts = old.environment_item_puts; environment_tag_puts = old.environment_tag_puts; environment_gets = old.environment_gets })
-      with_it marked none =
-          let parts = no_two (fault_if (mark_between (bits old.reads) sp op) Redeclared p ++ fault_if (is_none op) UnknownName a.place) (fault_if (is_none sp) StepMissing b.place) (faults ∙ none) in
-          let others = no_two (fault_if (mark_between (bits old.reads) sp op) Redeclared p) (fault_if (is_none op) UnknownName a.place) parts.0 in
-          let row = is_there sp StepMissing b.place parts.1 in
-          let place = is_there op UnknownName a.place others.1 in
-          let there = two_marked (λ step item. is_read item step) steps items before (related.Reads p a b) (bits old.reads) (text_of b) (text_of a) row.0 place.0 (sym step_is ∙ row.1) (sym other_is ∙ place.1) (λ one two. swapped (is_text (text_of a) two) (is_text (text_of b) one)) are.reads in
-          let now : bits rows ≡ set (bits old.reads) row.0 (set (get_or (bits old.reads) row.0 []) place.0 true) =
-          marked ∙ ap (λ (r : Option ℕ). with_mark_between (bits old.reads) r op) row.1 ∙ ap (with_mark_between (bits old.reads) (Some row.0)) place.1 in
-          record {
-            prescribers = prescribers_stay tags steps before (related.Reads p a b) (λ step. refl) old.prescribers.items are.prescribers;
-            reads = subst (AreRows (λ step item. is_read item step) steps items (before ++ (related.Reads p a b) ∷ [])) (sym now) there;
-            item_puts = rows_stay is_item_put steps items before (related.Reads p a b) (bits old.item_puts) (λ step name. refl) are.item_puts;
-            tag_puts = rows_stay is_tag_put steps tags before (related.Reads p a b) (bits old.tag_puts) (λ step name. refl) are.tag_puts;
-            environment_item_puts = marks_stay is_environment_item_put items before (related.Reads p a b) old.environment_item_puts.items (λ name. refl) are.environment_item_puts;
-            environment_tag_puts = marks_stay is_environment_tag_put tags before (related.Reads p a b) old.environment_tag_puts.items (λ name. refl) are.environment_tag_puts;
-            environment_gets = marks_stay is_environment_get items before (related.Reads p a b) old.environment_gets.items (λ name. refl) are.environment_gets;
-          }
+      relates items tags steps before (related.Reads p a b) _ _ result (faults_told (λ step item. is_read item step) items (related.Reads p a b) (bits old.reads) (bits rows) b a sp op are.reads step_is other_is (λ one. grind (arith, same_both_ways)) p items steps a b op sp UnknownName StepMissing other_is step_is) reports
+      marked (λ marks none. let own = row_marked (λ step item. is_read item step) items (related.Reads p a b) (bits old.reads) (bits rows) b a sp op are.reads step_is other_is (λ one two. and_comm (is_text (text_of a) two) (is_text (text_of b) one)) (search (first_empty, second_empty, none)) (search (first_empty, second_empty, none)) marks in search (own, kept))
 
   pub item_put_relates : (p : ℕ) (a b : Name) (sp op : Option ℕ) (rows : Vec (Vec Bool Global) Global) (result : Result (Unit {0}) PlacedFault)
       → sp ≡ place_of steps (text_of a) → op ≡ place_of items (text_of b)
-      → Reports (fault_if (mark_between (bits old.item_puts) sp op) Redeclared p ++ fault_if (is_none sp) StepMissing a.place ++ fault_if (is_none op) UnknownName b.place) result
+      → Reports (put_faults (bits old.item_puts) p sp a op b) result
       → OnOk result (bits rows ≡ with_mark_between (bits old.item_puts) sp op)
       → Relates items tags steps before (related.PutsItem p a b) (record { prescribers = old.prescribers; reads = old.reads; item_puts = rows; tag_puts = old.tag_puts; environment_item_puts = old.environment_item_puts; environment_tag_puts = old.environment_tag_puts; environment_gets = old.environment_gets }) result
   item_put_relates p a b sp op rows result step_is other_is reports marked =
-      relates items tags steps before (related.PutsItem p a b) _ _ result faults reports (IfOk-weaker result _ _ (λ _. with_it) marked)
-    where
-      before_it : list_any (same_relation (related.PutsItem p a b)) before ≡ mark_between (bits old.item_puts) sp op
-      before_it = any_same (same_relation (related.PutsItem p a b)) (is_item_put (text_of a) (text_of b)) before (same_item_put a b p) ∙ are.item_puts.each (text_of a) (text_of b)
-          ∙ ap (λ (r : Option ℕ). mark_between (bits old.item_puts) r (place_of items (text_of b))) (sym step_is) ∙ ap (mark_between (bits old.item_puts) sp) (sym other_is)
-
-      faults : fault_if (mark_between (bits old.item_puts) sp op) Redeclared p ++ fault_if (is_none sp) StepMissing a.place ++ fault_if (is_none op) UnknownName b.place ≡ relation_fault items tags steps before (related.PutsItem p a b)
-      faults =
-          ap (λ (m : Bool). fault_if m Redeclared p ++ fault_if (is_none sp) StepMissing a.place ++ fault_if (is_none op) UnknownName b.place) (sym before_it)
-          ∙ ap (λ (l : List At). again before (related.PutsItem p a b) p ++ l ++ fault_if (is_none op) UnknownName b.place) (in_vain sp steps a StepMissing step_is)
-          ∙ ap (λ (l : List At). again before (related.PutsItem p a b) p ++ missing steps a ++ l) (in_vain op items b UnknownName other_is)
-
-      with_it : bits rows ≡ with_mark_between (bits old.item_puts) sp op → relation_fault items tags steps before (related.PutsItem p a b) ≡ [] → AreRelations items tags steps (before ++ (related.PutsItem p a b) ∷ []) (record { prescribers = old.prescribers; reads = old.reads; item_puts = rows; tag_puts = old.tag_puts; environment_item_puts = old.environment_item_puts; environment_tag_puts = old.environment_tag_puts; environment_gets = old.environment_gets })
-      with_it marked none =
-          let parts = no_two (fault_if (mark_between (bits old.item_puts) sp op) Redeclared p ++ fault_if (is_none sp) StepMissing a.place) (fault_if (is_none op) UnknownName b.place) (faults ∙ none) in
-          let others = no_two (fault_if (mark_between (bits old.item_puts) sp op) Redeclared p) (fault_if (is_none sp) StepMissing a.place) parts.0 in
-          let row = is_there sp StepMissing a.place others.1 in
-          let place = is_there op UnknownName b.place parts.1 in
-          let there = two_marked (is_item_put) steps items before (related.PutsItem p a b) (bits old.item_puts) (text_of a) (text_of b) row.0 place.0 (sym step_is ∙ row.1) (sym other_is ∙ place.1) (λ one two. refl) are.item_puts in
-          let now : bits rows ≡ set (bits old.item_puts) row.0 (set (get_or (bits old.item_puts) row.0 []) place.0 true) =
-          marked ∙ ap (λ (r : Option ℕ). with_mark_between (bits old.item_puts) r op) row.1 ∙ ap (with_mark_between (bits old.item_puts) (Some row.0)) place.1 in
-          record {
-            prescribers = prescribers_stay tags steps before (related.PutsItem p a b) (λ step. refl) old.prescribers.items are.prescribers;
-            reads = rows_stay (λ step item. is_read item step) steps items before (related.PutsItem p a b) (bits old.reads) (λ step name. refl) are.reads;
-            item_puts = subst (AreRows (is_item_put) steps items (before ++ (related.PutsItem p a b) ∷ [])) (sym now) there;
-            tag_puts = rows_stay is_tag_put steps tags before (related.PutsItem p a b) (bits old.tag_puts) (λ step name. refl) are.tag_puts;
-            environment_item_puts = marks_stay is_environment_item_put items before (related.PutsItem p a b) old.environment_item_puts.items (λ name. refl) are.environment_item_puts;
-            environment_tag_puts = marks_stay is_environment_tag_put tags before (related.PutsItem p a b) old.environment_tag_puts.items (λ name. refl) are.environment_tag_puts;
-            environment_gets = marks_stay is_environment_get items before (related.PutsItem p a b) old.environment_gets.items (λ name. refl) are.environment_gets;
-          }
+      relates items tags steps before (related.PutsItem p a b) _ _ result (faults_told is_item_put items (related.PutsItem p a b) (bits old.item_puts) (bits rows) a b sp op are.item_puts step_is other_is (λ one. grind (arith, same_both_ways)) p steps items a b sp op StepMissing UnknownName step_is other_is) reports
+      marked (λ marks none. let own = row_marked is_item_put items (related.PutsItem p a b) (bits old.item_puts) (bits rows) a b sp op are.item_puts step_is other_is (λ one two. refl) (search (first_empty, second_empty, none)) (search (first_empty, second_empty, none)) marks in search (own, kept))
 
   pub tag_put_relates : (p : ℕ) (a b : Name) (sp op : Option ℕ) (rows : Vec (Vec Bool Global) Global) (result : Result (Unit {0}) PlacedFault)
       → sp ≡ place_of steps (text_of a) → op ≡ place_of tags (text_of b)
-      → Reports (fault_if (mark_between (bits old.tag_puts) sp op) Redeclared p ++ fault_if (is_none sp) StepMissing a.place ++ fault_if (is_none op) UnknownName b.place) result
+      → Reports (put_faults (bits old.tag_puts) p sp a op b) result
       → OnOk result (bits rows ≡ with_mark_between (bits old.tag_puts) sp op)
       → Relates items tags steps before (related.PutsTag p a b) (record { prescribers = old.prescribers; reads = old.reads; item_puts = old.item_puts; tag_puts = rows; environment_item_puts = old.environment_item_puts; environment_tag_puts = old.environment_tag_puts; environment_gets = old.environment_gets }) result
   tag_put_relates p a b sp op rows result step_is other_is reports marked =
-      relates items tags steps before (related.PutsTag p a b) _ _ result faults reports (IfOk-weaker result _ _ (λ _. with_it) marked)
-    where
-      before_it : list_any (same_relation (related.PutsTag p a b)) before ≡ mark_between (bits old.tag_puts) sp op
-      before_it = any_same (same_relation (related.PutsTag p a b)) (is_tag_put (text_of a) (text_of b)) before (same_tag_put a b p) ∙ are.tag_puts.each (text_of a) (text_of b)
-          ∙ ap (λ (r : Option ℕ). mark_between (bits old.tag_puts) r (place_of tags (text_of b))) (sym step_is) ∙ ap (mark_between (bits old.tag_puts) sp) (sym other_is)
+      relates items tags steps before (related.PutsTag p a b) _ _ result (faults_told is_tag_put tags (related.PutsTag p a b) (bits old.tag_puts) (bits rows) a b sp op are.tag_puts step_is other_is (λ one. grind (arith, same_both_ways)) p steps tags a b sp op StepMissing UnknownName step_is other_is) reports
+      marked (λ marks none. let own = row_marked is_tag_put tags (related.PutsTag p a b) (bits old.tag_puts) (bits rows) a b sp op are.tag_puts step_is other_is (λ one two. refl) (search (first_empty, second_empty, none)) (search (first_empty, second_empty, none)) marks in search (own, kept))
 
-      faults : fault_if (mark_between (bits old.tag_puts) sp op) Redeclared p ++ fault_if (is_none sp) StepMissing a.place ++ fault_if (is_none op) UnknownName b.place ≡ relation_fault items tags steps before (related.PutsTag p a b)
-      faults =
-          ap (λ (m : Bool). fault_if m Redeclared p ++ fault_if (is_none sp) StepMissing a.place ++ fault_if (is_none op) UnknownName b.place) (sym before_it)
-          ∙ ap (λ (l : List At). again before (related.PutsTag p a b) p ++ l ++ fault_if (is_none op) UnknownName b.place) (in_vain sp steps a StepMissing step_is)
-          ∙ ap (λ (l : List At). again before (related.PutsTag p a b) p ++ missing steps a ++ l) (in_vain op tags b UnknownName other_is)
+  -- ---- a relation of the environment
 
-      with_it : bits rows ≡ with_mark_between (bits old.tag_puts) sp op → relation_fault items tags steps before (related.PutsTag p a b) ≡ [] → AreRelations items tags steps (before ++ (related.PutsTag p a b) ∷ []) (record { prescribers = old.prescribers; reads = old.reads; item_puts = old.item_puts; tag_puts = rows; environment_item_puts = old.environment_item_puts; environment_tag_puts = old.environment_tag_puts; environment_gets = old.environment_gets })
-      with_it marked none =
-          let parts = no_two (fault_if (mark_between (bits old.tag_puts) sp op) Redeclared p ++ fault_if (is_none sp) StepMissing a.place) (fault_if (is_none op) UnknownName b.place) (faults ∙ none) in
-          let others = no_two (fault_if (mark_between (bits old.tag_puts) sp op) Redeclared p) (fault_if (is_none sp) StepMissing a.place) parts.0 in
-          let row = is_there sp StepMissing a.place others.1 in
-          let place = is_there op UnknownName b.place parts.1 in
-          let there = two_marked (is_tag_put) steps tags before (related.PutsTag p a b) (bits old.tag_puts) (text_of a) (text_of b) row.0 place.0 (sym step_is ∙ row.1) (sym other_is ∙ place.1) (λ one two. refl) are.tag_puts in
-          let now : bits rows ≡ set (bits old.tag_puts) row.0 (set (get_or (bits old.tag_puts) row.0 []) place.0 true) =
-          marked ∙ ap (λ (r : Option ℕ). with_mark_between (bits old.tag_puts) r op) row.1 ∙ ap (with_mark_between (bits old.tag_puts) (Some row.0)) place.1 in
-          record {
-            prescribers = prescribers_stay tags steps before (related.PutsTag p a b) (λ step. refl) old.prescribers.items are.prescribers;
-            reads = rows_stay (λ step item. is_read item step) steps items before (related.PutsTag p a b) (bits old.reads) (λ step name. refl) are.reads;
-            item_puts = rows_stay is_item_put steps items before (related.PutsTag p a b) (bits old.item_puts) (λ step name. refl) are.item_puts;
-            tag_puts = subst (AreRows (is_tag_put) steps tags (before ++ (related.PutsTag p a b) ∷ [])) (sym now) there;
-            environment_item_puts = marks_stay is_environment_item_put items before (related.PutsTag p a b) old.environment_item_puts.items (λ name. refl) are.environment_item_puts;
-            environment_tag_puts = marks_stay is_environment_tag_put tags before (related.PutsTag p a b) old.environment_tag_puts.items (λ name. refl) are.environment_tag_puts;
-            environment_gets = marks_stay is_environment_get items before (related.PutsTag p a b) old.environment_gets.items (λ name. refl) are.environment_gets;
-          }
+  module _ (is : Text → Relation → Bool) (names : List Text) (relation : Relation) (row new : List Bool) (name : Name) (op : Option ℕ) (so_far : AreMarks is names before row) (name_is : op ≡ place_of names (text_of name)) where
+    fault_told : ((one : Relation) → same_relation relation one ≡ is (text_of name) one) → (p : ℕ)
+        → fault_if (mark_at row op) Redeclared p ++ fault_if (is_none op) UnknownName name.place ≡ again before relation p ++ fault_if (not (has names name)) UnknownName name.place
+    fault_told same p =
+        let marked : list_any (same_relation relation) before ≡ mark_at row op = any_agree (same_relation relation) (is (text_of name)) before same ∙ so_far.each (text_of name) ∙ ap (mark_at row) (sym name_is) in
+        λ i. fault_if (sym marked i) Redeclared p ++ in_vain op names name UnknownName name_is i
+
+    name_marked : ((other : Text) → is other relation ≡ is_text (text_of name) other) → fault_if (not (has names name)) UnknownName name.place ≡ [] → new ≡ with_mark row op → AreMarks is names (before ++ relation ∷ []) new
+    name_marked kind none marked =
+        let place = is_there (place_of names (text_of name)) UnknownName name.place none in
+        subst (AreMarks is names (before ++ relation ∷ [])) (sym (marked ∙ ap (with_mark row) (name_is ∙ place.1))) (one_marked is names before relation row (text_of name) place.0 place.1 kind so_far)
 
   pub environment_item_put_relates : (p : ℕ) (a : Name) (op : Option ℕ) (row : Vec Bool Global) (result : Result (Unit {0}) PlacedFault)
       → op ≡ place_of items (text_of a)
-      → Reports (fault_if (mark_at old.environment_item_puts.items op) Redeclared p ++ fault_if (is_none op) UnknownName a.place) result
+      → Reports (environment_faults old.environment_item_puts.items p op a) result
       → OnOk result (row.items ≡ with_mark old.environment_item_puts.items op)
       → Relates items tags steps before (related.EnvironmentPutsItem p a) (record { prescribers = old.prescribers; reads = old.reads; item_puts = old.item_puts; tag_puts = old.tag_puts; environment_item_puts = row; environment_tag_puts = old.environment_tag_puts; environment_gets = old.environment_gets }) result
   environment_item_put_relates p a op row result other_is reports marked =
-      relates items tags steps before (related.EnvironmentPutsItem p a) _ _ result faults reports (IfOk-weaker result _ _ (λ _. with_it) marked)
-    where
-      before_it : list_any (same_relation (related.EnvironmentPutsItem p a)) before ≡ mark_at old.environment_item_puts.items op
-      before_it = any_same (same_relation (related.EnvironmentPutsItem p a)) (is_environment_item_put (text_of a)) before (same_environment_item_put a p) ∙ are.environment_item_puts.each (text_of a) ∙ ap (mark_at old.environment_item_puts.items) (sym other_is)
-
-      faults : fault_if (mark_at old.environment_item_puts.items op) Redeclared p ++ fault_if (is_none op) UnknownName a.place ≡ relation_fault items tags steps before (related.EnvironmentPutsItem p a)
-      faults =
-          ap (λ (m : Bool). fault_if m Redeclared p ++ fault_if (is_none op) UnknownName a.place) (sym before_it)
-          ∙ ap (λ (l : List At). again before (related.EnvironmentPutsItem p a) p ++ l) (in_vain op items a UnknownName other_is)
-
-      with_it : row.items ≡ with_mark old.environment_item_puts.items op → relation_fault items tags steps before (related.EnvironmentPutsItem p a) ≡ [] → AreRelations items tags steps (before ++ (related.EnvironmentPutsItem p a) ∷ []) (record { prescribers = old.prescribers; reads = old.reads; item_puts = old.item_puts; tag_puts = old.tag_puts; environment_item_puts = row; environment_tag_puts = old.environment_tag_puts; environment_gets = old.environment_gets })
-      with_it marked none =
-          let parts = no_two (fault_if (mark_at old.environment_item_puts.items op) Redeclared p) (fault_if (is_none op) UnknownName a.place) (faults ∙ none) in
-          let place = is_there op UnknownName a.place parts.1 in
-          let there = one_marked is_environment_item_put items before (related.EnvironmentPutsItem p a) old.environment_item_puts.items (text_of a) place.0 (sym other_is ∙ place.1) (λ other. refl) are.environment_item_puts in
-          let now : row.items ≡ set old.environment_item_puts.items place.0 true = marked ∙ ap (with_mark old.environment_item_puts.items) place.1 in
-          record {
-            prescribers = prescribers_stay tags steps before (related.EnvironmentPutsItem p a) (λ step. refl) old.prescribers.items are.prescribers;
-            reads = rows_stay (λ step item. is_read item step) steps items before (related.EnvironmentPutsItem p a) (bits old.reads) (λ step name. refl) are.reads;
-            item_puts = rows_stay is_item_put steps items before (related.EnvironmentPutsItem p a) (bits old.item_puts) (λ step name. refl) are.item_puts;
-            tag_puts = rows_stay is_tag_put steps tags before (related.EnvironmentPutsItem p a) (bits old.tag_puts) (λ step name. refl) are.tag_puts;
-            environment_item_puts = subst (AreMarks is_environment_item_put items (before ++ (related.EnvironmentPutsItem p a) ∷ [])) (sym now) there;
-            environment_tag_puts = marks_stay is_environment_tag_put tags before (related.EnvironmentPutsItem p a) old.environment_tag_puts.items (λ name. refl) are.environment_tag_puts;
-            environment_gets = marks_stay is_environment_get items before (related.EnvironmentPutsItem p a) old.environment_gets.items (λ name. refl) are.environment_gets;
-          }
+      relates items tags steps before (related.EnvironmentPutsItem p a) _ _ result (fault_told is_environment_item_put items (related.EnvironmentPutsItem p a) old.environment_item_puts.items row.items a op are.environment_item_puts other_is (λ one. grind (arith, same_both_ways)) p) reports
+      marked (λ marks none. let own = name_marked is_environment_item_put items (related.EnvironmentPutsItem p a) old.environment_item_puts.items row.items a op are.environment_item_puts other_is (λ other. refl) (search (second_empty, none)) marks in search (own, kept))
 
   pub environment_tag_put_relates : (p : ℕ) (a : Name) (op : Option ℕ) (row : Vec Bool Global) (result : Result (Unit {0}) PlacedFault)
       → op ≡ place_of tags (text_of a)
-      → Reports (fault_if (mark_at old.environment_tag_puts.items op) Redeclared p ++ fault_if (is_none op) UnknownName a.place) result
+      → Reports (environment_faults old.environment_tag_puts.items p op a) result
       → OnOk result (row.items ≡ with_mark old.environment_tag_puts.items op)
       → Relates items tags steps before (related.EnvironmentPutsTag p a) (record { prescribers = old.prescribers; reads = old.reads; item_puts = old.item_puts; tag_puts = old.tag_puts; environment_item_puts = old.environment_item_puts; environment_tag_puts = row; environment_gets = old.environment_gets }) result
   environment_tag_put_relates p a op row result other_is reports marked =
-      relates items tags steps before (related.EnvironmentPutsTag p a) _ _ result faults reports (IfOk-weaker result _ _ (λ _. with_it) marked)
-    where
-      before_it : list_any (same_relation (related.EnvironmentPutsTag p a)) before ≡ mark_at old.environment_tag_puts.items op
-      before_it = any_same (same_relation (related.EnvironmentPutsTag p a)) (is_environment_tag_put (text_of a)) before (same_environment_tag_put a p) ∙ are.environment_tag_puts.each (text_of a) ∙ ap (mark_at old.environment_tag_puts.items) (sym other_is)
-
-      faults : fault_if (mark_at old.environment_tag_puts.items op) Redeclared p ++ fault_if (is_none op) UnknownName a.place ≡ relation_fault items tags steps before (related.EnvironmentPutsTag p a)
-      faults =
-          ap (λ (m : Bool). fault_if m Redeclared p ++ fault_if (is_none op) UnknownName a.place) (sym before_it)
-          ∙ ap (λ (l : List At). again before (related.EnvironmentPutsTag p a) p ++ l) (in_vain op tags a UnknownName other_is)
-
-      with_it : row.items ≡ with_mark old.environment_tag_puts.items op → relation_fault items tags steps before (related.EnvironmentPutsTag p a) ≡ [] → AreRelations items tags steps (before ++ (related.EnvironmentPutsTag p a) ∷ []) (record { prescribers = old.prescribers; reads = old.reads; item_puts = old.item_puts; tag_puts = old.tag_puts; environment_item_puts = old.environment_item_puts; environment_tag_puts = row; environment_gets = old.environment_gets })
-      with_it marked none =
-          let parts = no_two (fault_if (mark_at old.environment_tag_puts.items op) Redeclared p) (fault_if (is_none op) UnknownName a.place) (faults ∙ none) in
-          let place = is_there op UnknownName a.place parts.1 in
-          let there = one_marked is_environment_tag_put tags before (related.EnvironmentPutsTag p a) old.environment_tag_puts.items (text_of a) place.0 (sym other_is ∙ place.1) (λ other. refl) are.environment_tag_puts in
-          let now : row.items ≡ set old.environment_tag_puts.items place.0 true = marked ∙ ap (with_mark old.environment_tag_puts.items) place.1 in
-          record {
-            prescribers = prescribers_stay tags steps before (related.EnvironmentPutsTag p a) (λ step. refl) old.prescribers.items are.prescribers;
-            reads = rows_stay (λ step item. is_read item step) steps items before (related.EnvironmentPutsTag p a) (bits old.reads) (λ step name. refl) are.reads;
-            item_puts = rows_stay is_item_put steps items before (related.EnvironmentPutsTag p a) (bits old.item_puts) (λ step name. refl) are.item_puts;
-            tag_puts = rows_stay is_tag_put steps tags before (related.EnvironmentPutsTag p a) (bits old.tag_puts) (λ step name. refl) are.tag_puts;
-            environment_item_puts = marks_stay is_environment_item_put items before (related.EnvironmentPutsTag p a) old.environment_item_puts.items (λ name. refl) are.environment_item_puts;
-            environment_tag_puts = subst (AreMarks is_environment_tag_put tags (before ++ (related.EnvironmentPutsTag p a) ∷ [])) (sym now) there;
-            environment_gets = marks_stay is_environment_get items before (related.EnvironmentPutsTag p a) old.environment_gets.items (λ name. refl) are.environment_gets;
-          }
+      relates items tags steps before (related.EnvironmentPutsTag p a) _ _ result (fault_told is_environment_tag_put tags (related.EnvironmentPutsTag p a) old.environment_tag_puts.items row.items a op are.environment_tag_puts other_is (λ one. grind (arith, same_both_ways)) p) reports
+      marked (λ marks none. let own = name_marked is_environment_tag_put tags (related.EnvironmentPutsTag p a) old.environment_tag_puts.items row.items a op are.environment_tag_puts other_is (λ other. refl) (search (second_empty, none)) marks in search (own, kept))
 
   pub environment_get_relates : (p : ℕ) (a : Name) (op : Option ℕ) (row : Vec Bool Global) (result : Result (Unit {0}) PlacedFault)
       → op ≡ place_of items (text_of a)
-      → Reports (fault_if (mark_at old.environment_gets.items op) Redeclared p ++ fault_if (is_none op) UnknownName a.place) result
+      → Reports (environment_faults old.environment_gets.items p op a) result
       → OnOk result (row.items ≡ with_mark old.environment_gets.items op)
       → Relates items tags steps before (related.EnvironmentGets p a) (record { prescribers = old.prescribers; reads = old.reads; item_puts = old.item_puts; tag_puts = old.tag_puts; environment_item_puts = old.environment_item_puts; environment_tag_puts = old.environment_tag_puts; environment_gets = row }) result
   environment_get_relates p a op row result other_is reports marked =
-      relates items tags steps before (related.EnvironmentGets p a) _ _ result faults reports (IfOk-weaker result _ _ (λ _. with_it) marked)
-    where
-      before_it : list_any (same_relation (related.EnvironmentGets p a)) before ≡ mark_at old.environment_gets.items op
-      before_it = any_same (same_relation (related.EnvironmentGets p a)) (is_environment_get (text_of a)) before (same_environment_get a p) ∙ are.environment_gets.each (text_of a) ∙ ap (mark_at old.environment_gets.items) (sym other_is)
+      relates items tags steps before (related.EnvironmentGets p a) _ _ result (fault_told is_environment_get items (related.EnvironmentGets p a) old.environment_gets.items row.items a op are.environment_gets other_is (λ one. grind (arith, same_both_ways)) p) reports
+      marked (λ marks none. let own = name_marked is_environment_get items (related.EnvironmentGets p a) old.environment_gets.items row.items a op are.environment_gets other_is (λ other. refl) (search (second_empty, none)) marks in search (own, kept))
 
-      faults : fault_if (mark_at old.environment_gets.items op) Redeclared p ++ fault_if (is_none op) UnknownName a.place ≡ relation_fault items tags steps before (related.EnvironmentGets p a)
-      faults =
-          ap (λ (m : Bool). fault_if m Redeclared p ++ fault_if (is_none op) UnknownName a.place) (sym before_it)
-          ∙ ap (λ (l : List At). again before (related.EnvironmentGets p a) p ++ l) (in_vain op items a UnknownName other_is)
-
-      with_it : row.items ≡ with_mark old.environment_gets.items op → relation_fault items tags steps before (related.EnvironmentGets p a) ≡ [] → AreRelations items tags steps (before ++ (related.EnvironmentGets p a) ∷ []) (record { prescribers = old.prescribers; reads = old.reads; item_puts = old.item_puts; tag_puts = old.tag_puts; environment_item_puts = old.environment_item_puts; environment_tag_puts = old.environment_tag_puts; environment_gets = row })
-      with_it marked none =
-          let parts = no_two (fault_if (mark_at old.environment_gets.items op) Redeclared p) (fault_if (is_none op) UnknownName a.place) (faults ∙ none) in
-          let place = is_there op UnknownName a.place parts.1 in
-          let there = one_marked is_environment_get items before (related.EnvironmentGets p a) old.environment_gets.items (text_of a) place.0 (sym other_is ∙ place.1) (λ other. refl) are.environment_gets in
-          let now : row.items ≡ set old.environment_gets.items place.0 true = marked ∙ ap (with_mark old.environment_gets.items) place.1 in
-          record {
-            prescribers = prescribers_stay tags steps before (related.EnvironmentGets p a) (λ step. refl) old.prescribers.items are.prescribers;
-            reads = rows_stay (λ step item. is_read item step) steps items before (related.EnvironmentGets p a) (bits old.reads) (λ step name. refl) are.reads;
-            item_puts = rows_stay is_item_put steps items before (related.EnvironmentGets p a) (bits old.item_puts) (λ step name. refl) are.item_puts;
-            tag_puts = rows_stay is_tag_put steps tags before (related.EnvironmentGets p a) (bits old.tag_puts) (λ step name. refl) are.tag_puts;
-            environment_item_puts = marks_stay is_environment_item_put items before (related.EnvironmentGets p a) old.environment_item_puts.items (λ name. refl) are.environment_item_puts;
-            environment_tag_puts = marks_stay is_environment_tag_put tags before (related.EnvironmentGets p a) old.environment_tag_puts.items (λ name. refl) are.environment_tag_puts;
-            environment_gets = subst (AreMarks is_environment_get items (before ++ (related.EnvironmentGets p a) ∷ [])) (sym now) there;
-          }
+  -- ---- a prescription
 
   pub prescription_relates : (a b : Name) (tp sp : Option ℕ) (list : Vec (Option TagCollection) Global) (result : Result (Unit {0}) PlacedFault)
       → tp ≡ place_of tags (text_of a) → sp ≡ place_of steps (text_of b)
-      → Reports (fault_if (is_none tp) UnknownName a.place ++ or_else (fault_if (is_none sp) StepMissing b.place) (fault_if (is_some (prescriber_at old.prescribers.items sp)) TwoPrescribers b.place)) result
+      → Reports (prescription_faults old.prescribers.items tp a sp b) result
       → OnOk result (list.items ≡ with_prescriber old.prescribers.items sp tp)
       → Relates items tags steps before (related.Prescribes a b) (record { prescribers = list; reads = old.reads; item_puts = old.item_puts; tag_puts = old.tag_puts; environment_item_puts = old.environment_item_puts; environment_tag_puts = old.environment_tag_puts; environment_gets = old.environment_gets }) result
   prescription_relates a b tp sp list result tag_is step_is reports marked =
-      relates items tags steps before (related.Prescribes a b) _ _ result faults reports (IfOk-weaker result _ _ (λ _. with_it) marked)
+      relates items tags steps before (related.Prescribes a b) _ _ result faults reports marked (λ marks none. let own = its_own marks none in search (own, kept))
     where
-      second : fault_if (is_some (prescriber_at old.prescribers.items sp)) TwoPrescribers b.place ≡ prescribed_before before b
-      second = ap (λ (m : Bool). fault_if m TwoPrescribers b.place)
-          (ap (λ (p : Option ℕ). is_some (prescriber_at old.prescribers.items p)) step_is ∙ both_there tags _ _ (are.prescribers.each (text_of b)))
+      once : is_some (prescriber_at old.prescribers.items sp) ≡ is_some (prescriber_of before (text_of b))
+      once = ap (λ (p : Option ℕ). is_some (prescriber_at old.prescribers.items p)) step_is ∙ both_there tags _ _ (are.prescribers.each (text_of b))
 
-      faults : fault_if (is_none tp) UnknownName a.place ++ or_else (fault_if (is_none sp) StepMissing b.place) (fault_if (is_some (prescriber_at old.prescribers.items sp)) TwoPrescribers b.place) ≡ relation_fault items tags steps before (related.Prescribes a b)
-      faults =
-          ap (λ (l : List At). l ++ or_else (fault_if (is_none sp) StepMissing b.place) (fault_if (is_some (prescriber_at old.prescribers.items sp)) TwoPrescribers b.place)) (in_vain tp tags a UnknownName tag_is)
-          ∙ ap (λ (l : List At). unknown tags a ++ or_else l (fault_if (is_some (prescriber_at old.prescribers.items sp)) TwoPrescribers b.place)) (in_vain sp steps b StepMissing step_is)
-          ∙ ap (λ (l : List At). unknown tags a ++ or_else (missing steps b) l) second
+      faults : prescription_faults old.prescribers.items tp a sp b ≡ relation_fault items tags steps before (related.Prescribes a b)
+      faults = λ i. in_vain tp tags a UnknownName tag_is i ++ or_else (in_vain sp steps b StepMissing step_is i) (fault_if (once i) TwoPrescribers b.place)
 
-      with_it : list.items ≡ with_prescriber old.prescribers.items sp tp → relation_fault items tags steps before (related.Prescribes a b) ≡ [] → AreRelations items tags steps (before ++ (related.Prescribes a b) ∷ []) (record { prescribers = list; reads = old.reads; item_puts = old.item_puts; tag_puts = old.tag_puts; environment_item_puts = old.environment_item_puts; environment_tag_puts = old.environment_tag_puts; environment_gets = old.environment_gets })
-      with_it marked none =
-          let parts = no_two (fault_if (is_none tp) UnknownName a.place) (or_else (fault_if (is_none sp) StepMissing b.place) (fault_if (is_some (prescriber_at old.prescribers.items sp)) TwoPrescribers b.place)) (faults ∙ none) in
-          let tag = is_there tp UnknownName a.place parts.0 in
-          let alone = first_none (fault_if (is_none sp) StepMissing b.place) (fault_if (is_some (prescriber_at old.prescribers.items sp)) TwoPrescribers b.place) parts.1 in
-          let step = is_there sp StepMissing b.place alone.0 in
-          let free = not_held (is_some (prescriber_at old.prescribers.items sp)) TwoPrescribers b.place alone.1 in
-          let there = one_prescribed tags steps before old.prescribers.items a b tag.0 step.0 (sym tag_is ∙ tag.1) (sym step_is ∙ step.1) (ap (λ (p : Option ℕ). is_some (prescriber_at old.prescribers.items p)) (sym step.1) ∙ free) are.prescribers in
-          let now : list.items ≡ set old.prescribers.items step.0 (Some (record { 0 = tag.0 })) =
-          marked ∙ ap (λ (s : Option ℕ). with_prescriber old.prescribers.items s tp) step.1 ∙ ap (with_prescriber old.prescribers.items (Some step.0)) tag.1 in
-          record {
-            prescribers = subst (ArePrescribers tags steps (before ++ (related.Prescribes a b) ∷ [])) (sym now) there;
-            reads = rows_stay (λ step item. is_read item step) steps items before (related.Prescribes a b) (bits old.reads) (λ step name. refl) are.reads;
-            item_puts = rows_stay is_item_put steps items before (related.Prescribes a b) (bits old.item_puts) (λ step name. refl) are.item_puts;
-            tag_puts = rows_stay is_tag_put steps tags before (related.Prescribes a b) (bits old.tag_puts) (λ step name. refl) are.tag_puts;
-            environment_item_puts = marks_stay is_environment_item_put items before (related.Prescribes a b) old.environment_item_puts.items (λ name. refl) are.environment_item_puts;
-            environment_tag_puts = marks_stay is_environment_tag_put tags before (related.Prescribes a b) old.environment_tag_puts.items (λ name. refl) are.environment_tag_puts;
-            environment_gets = marks_stay is_environment_get items before (related.Prescribes a b) old.environment_gets.items (λ name. refl) are.environment_gets;
-          }
+      its_own : list.items ≡ with_prescriber old.prescribers.items sp tp → relation_fault items tags steps before (related.Prescribes a b) ≡ [] → ArePrescribers tags steps (before ++ related.Prescribes a b ∷ []) list.items
+      its_own marks none =
+          let tag = is_there (place_of tags (text_of a)) UnknownName a.place (first_empty (unknown tags a) _ none) in
+          let alone = first_none (missing steps b) (prescribed_before before b) (second_empty (unknown tags a) _ none) in
+          let step = is_there (place_of steps (text_of b)) StepMissing b.place alone.0 in
+          let free = ap (λ (p : Option ℕ). is_some (prescriber_at old.prescribers.items p)) (sym (step_is ∙ step.1)) ∙ once ∙ not_so _ TwoPrescribers b.place alone.1 in
+          subst (ArePrescribers tags steps (before ++ related.Prescribes a b ∷ [])) (sym (marks ∙ (λ i. with_prescriber old.prescribers.items ((step_is ∙ step.1) i) ((tag_is ∙ tag.1) i))))
+          (one_prescribed tags steps before old.prescribers.items a b tag.0 step.0 tag.1 step.1 free are.prescribers)

@@ -1,5 +1,6 @@
 -- The parts of a tree, one after another.
-use Rattle.std.proofs.Common.{◌≡◌, ℕ, suc, List, [], ◌∷◌, ◌++◌, length, map, refl, sym, ap, subst, ◌∙◌}
+use Rattle.std.proofs.Common.{◌≡◌, ℕ, List, [], ◌++◌, length, map, sym, ap, subst, ◌∙◌}
+use Rattle.std.proofs.lemmas.List.{length-map}
 use Rattle.steptree.specs.declared.step.Step.{Step as NamedStep}
 use Rattle.steptree.specs.Names.{Text, place_of, names_in}
 use Rattle.steptree.specs.Nameable.{Collection}
@@ -16,13 +17,12 @@ use Rattle.graph.specs.Numbered.{found}
 use Rattle.graph.specs.Placed.{IsFirst}
 use Rattle.graph.specs.Relations.{AreNumbers, AreRelations}
 use Rattle.graph.specs.Steps.{ArePlaces}
-use Rattle.graph.specs.Tree.{items_of, tags_of, step_names}
+use Rattle.graph.specs.Tree.{items_of, tags_of, step_names, text_of}
 use Rattle.graph.proofs.Declaring.{their_names}
 use Rattle.graph.proofs.FirstFaults.{in_front, behind_none, empty_in_front}
 
 pub as_many_names : (steps : List NamedStep) → length (step_names steps) ≡ length steps
-as_many_names [] = refl
-as_many_names (step ∷ steps) = ap suc (as_many_names steps)
+as_many_names steps = length-map steps (λ (step : NamedStep). text_of step.name)
 
 module _ (tree : Tree) where
   abbrev pub item_names : List Text
@@ -72,10 +72,7 @@ module _ (tree : Tree) where
         ∙ sym (ap (relation_faults item_names tag_names its_steps []) r) ∙ no_relation
 
     same_steps : step_faults declared relations [] steps ≡ step_faults (tags_of tree.declarations.items) tree.relations.items [] tree.steps.items
-    same_steps =
-        ap (λ (l : List Collection). step_faults l relations [] steps) their_tags
-        ∙ ap (λ (l : List Relation). step_faults (tags_of tree.declarations.items) l [] steps) r
-        ∙ ap (step_faults (tags_of tree.declarations.items) tree.relations.items []) s
+    same_steps = λ i. step_faults (their_tags i) (r i) [] (s i)
 
     -- the first fault of the steps
     pub step_first : (fault : PlacedFault) → declaration_faults [] [] ds ≡ [] → relation_faults item_names tag_names its_steps [] relations ≡ []

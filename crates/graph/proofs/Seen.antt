@@ -1,14 +1,15 @@
 -- The values that contracts see parts of a graph as.
-use Rattle.std.proofs.Common.{◌≡◌, ℕ, zero, suc, Bool, true, false, List, [], ◌∷◌, map, Some, None, if◌then◌else◌, refl, sym, ap, ◌∙◌, slice_get, length, ◌≤◌, arith}
+use Rattle.std.proofs.Common.{◌≡◌, ℕ, zero, suc, Bool, false, List, [], ◌∷◌, map, Some, None, if◌then◌else◌, refl, sym, ap, ◌∙◌, slice_get, length, ◌≤◌, arith, Option}
+use Rattle.std.proofs.lemmas.Bool.Decides.{nat_tests}
+use Rattle.std.proofs.lemmas.Option.{slice_get_past, slice_get-map}
+use Rattle.std.proofs.lemmas.List.{length-map}
 use Rattle.std.specs.Prelude.{◌==◌, option_map}
-use Rattle.std.proofs.Common.{eqb-true}
 use Rattle.steptree.specs.Names.{Text, names_in}
 use Rattle.graph.specs.declared.graph.Prescribed.{Prescribed}
 use Rattle.graph.specs.Graph.{Step, Graph, IsGraph}
 use Rattle.graph.specs.Seen.{collection_seen, step_seen}
 use Rattle.graph.specs.Numbered.{names_numbered}
 use Rattle.graph.specs.Prescribed.{prescribed_by, prescribed_from, names_of_steps}
-use Rattle.graph.proofs.Rising.{as_many_mapped}
 
 fused : {X Y Z : Type 0} (f : X → Y) (g : Y → Z) (xs : List X) → map g (map f xs) ≡ map (λ x. g (f x)) xs
 fused f g [] = refl
@@ -28,32 +29,21 @@ none_of tag number (step ∷ steps) other =
 
 -- tags that are not in the graph prescribe nothing
 pub none_prescribed : (g : Graph) (tag : ℕ) → IsGraph g → slice_get g.tags tag ≡ None → prescribed_by g tag ≡ []
-none_prescribed g tag graph none = none_of tag 0 g.steps (λ place step there. by place step there (step.prescriber == tag) refl)
-  where
-    by : (place : ℕ) (step : Step) → slice_get g.steps place ≡ Some step → (same : Bool) → (step.prescriber == tag) ≡ same → same ≡ false
-    by place step there true same =
-        let is = (graph.steps place step there).prescribed in
-        let one : step.prescriber ≡ tag = eqb-true step.prescriber tag same in
-        let here = is.1 in
-        absurd (cc)
-    by place step there false same = refl
+none_prescribed g tag graph none = none_of tag 0 g.steps (λ place step there. let is = (graph.steps place step there).prescribed in let here = is.1 in grind (arith, nat_tests, here, none))
 
 pub past_seen : (tags : List (Text × ℕ)) (number : ℕ) → length tags ≤ number → slice_get (map collection_seen tags) number ≡ None
-past_seen [] number past = refl
-past_seen (entry ∷ tags) zero past = absurd (omega arith)
-past_seen (entry ∷ tags) (suc number) past = past_seen tags number (omega arith)
+past_seen tags number past = slice_get_past (map collection_seen tags) number (omega (arith, past, length-map tags collection_seen))
 
 -- ---- steps by their numbers
 
+none_mapped : {X Y Z : Type 0} (f : X → Y) (h : X → Z) (x : Option X) → None ≡ option_map f x → None ≡ option_map h x
+none_mapped f h x none = grind arith
+
 pub no_step_value : (steps : List (Text × Prescribed)) (number : ℕ) → None ≡ option_map (λ entry. entry.1) (slice_get steps number) → None ≡ slice_get (map step_seen steps) number
-no_step_value [] number none = refl
-no_step_value (entry ∷ steps) zero none = absurd (cc)
-no_step_value (entry ∷ steps) (suc number) none = no_step_value steps number none
+no_step_value steps number none = none_mapped (λ (entry : Text × Prescribed). entry.1) step_seen (slice_get steps number) none ∙ sym (slice_get-map step_seen steps number)
 
 pub no_step_name : (steps : List (Text × Prescribed)) (number : ℕ) → None ≡ slice_get (names_numbered steps) number → None ≡ slice_get (map step_seen steps) number
-no_step_name [] number none = refl
-no_step_name (entry ∷ steps) zero none = absurd (cc)
-no_step_name (entry ∷ steps) (suc number) none = no_step_name steps number none
+no_step_name steps number none = none_mapped (λ (entry : Text × Prescribed). entry.0) step_seen (slice_get steps number) (none ∙ slice_get-map (λ entry. entry.0) steps number) ∙ sym (slice_get-map step_seen steps number)
 
 its_entry : (steps : List (Text × Prescribed)) (number : ℕ) (it : Prescribed) → Some it ≡ option_map (λ entry. entry.1) (slice_get steps number) → (name : Text) × (slice_get (map step_seen steps) number ≡ Some (step_seen (name, it)))
 its_entry [] number it there = absurd (cc)
@@ -68,4 +58,4 @@ pub enough_names : (g : Graph) (steps : List (Text × Prescribed)) → g.steps �
 enough_names g steps same number it graph there =
     let entry = its_entry steps number it there in
     let of_graph = graph.steps number (step_seen (entry.0, it)) (ap (λ (all : List Step). slice_get all number) same ∙ entry.1) in
-    omega (arith, of_graph.parameters, as_many_mapped (λ name. name.bytes.items) it.checked.names.items)
+    omega (arith, of_graph.parameters, length-map it.checked.names.items (λ name. name.bytes.items))

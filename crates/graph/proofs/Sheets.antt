@@ -1,10 +1,11 @@
 -- What a tree without a fault lets its steps name, as its tables say.
-use Rattle.std.proofs.Common.{◌≡◌, ◌<◌, ℕ, zero, suc, Bool, false, List, [], ◌∷◌, length, map, get_or, Option, Some, None, refl, sym, ap, subst, ◌∙◌, slice_get, arith}
-use Rattle.std.specs.Prelude.{Vec, IsSome}
-use Rattle.std.specs.List.{AllByRecursion, IsDistinct, list_any}
+use Rattle.std.proofs.Common.{◌≡◌, ◌<◌, ℕ, suc, Bool, false, List, [], ◌∷◌, length, map, get_or, Option, Some, None, refl, sym, ap, subst, ◌∙◌, slice_get, arith}
+use Rattle.std.proofs.lemmas.List.{length-map}
+use Rattle.std.specs.Prelude.{Vec, IsSome, option_map}
+use Rattle.std.specs.List.{IsDistinct, list_any}
 use Rattle.std.specs.Str.{bytes_eq}
 use Rattle.std.specs.declared.alloc.Global.{Global}
-use Rattle.std.proofs.lemmas.Option.{slice_get_within}
+use Rattle.std.proofs.lemmas.Option.{slice_get_within, slice_get-map}
 use Rattle.terms.specs.declared.name.TagCollection.{TagCollection}
 use Rattle.steptree.specs.declared.step.Step.{Step as NamedStep}
 use Rattle.steptree.specs.CheckFaults.{faults_of}
@@ -18,23 +19,14 @@ use Rattle.graph.specs.declared.resolved.Resolved.{Resolved}
 use Rattle.graph.specs.CheckedSteps.{IsPrescribedBy, IsBodyFault}
 use Rattle.graph.specs.Faults.{arity_faults, body_fault, tree_faults}
 use Rattle.graph.specs.Placed.{IsFirst}
-use Rattle.graph.specs.Marks.{mark_at, AreMarks, AreRows, IsPrescriber, prescriber_at}
+use Rattle.graph.specs.Marks.{mark_at, mark_between, AreMarks, AreRows, IsPrescriber, prescriber_at}
 use Rattle.graph.specs.Resolved.{IsResolved}
 use Rattle.graph.specs.Small.{IsSmall, IsSmallStep}
 use Rattle.graph.specs.Tree.{text_of, items_of, tags_of, step_names, is_read, is_item_put, is_tag_put, each_of, prescriber_of, sheet_in}
 use Rattle.graph.proofs.Faultless.{items_apart, tags_apart, step_names_apart, no_arity}
-use Rattle.graph.proofs.Lists.{any_default}
-use Rattle.graph.proofs.Marks.{width_at, stood}
+use Rattle.graph.proofs.Lists.{any_default, each_at, each_found}
+use Rattle.graph.proofs.Marks.{stood}
 use Rattle.graph.proofs.Places.{own_place}
-
--- ---- limits
-
-pub small_step : (steps : List NamedStep) (number : ℕ) (step : NamedStep) → slice_get steps number ≡ Some step → AllByRecursion IsSmallStep steps → IsSmallStep step
-small_step [] number step there small = absurd (cc)
-small_step (first ∷ steps) zero step there small =
-    let same : first ≡ step = cc in
-    subst IsSmallStep same small.0
-small_step (first ∷ steps) (suc number) step there small = small_step steps number step there small.1
 
 -- ---- marks
 
@@ -56,24 +48,16 @@ row_told is names relations row distinct are =
 marks_of : (is : Text → Text → Relation → Bool) (steps names : List Text) (relations : List Relation) (rows : List (List Bool)) (number : ℕ) (step : Text) → number < length steps → place_of steps step ≡ Some number
     → AreRows is steps names relations rows → AreMarks (is step) names relations (get_or rows number [])
 marks_of is steps names relations rows number step within place are = record {
-  long = width_at rows number (length names) (omega (arith, are.long)) are.wide;
-  each = λ name. are.each step name ∙ ap (λ (p : Option ℕ). mark_between' p (place_of names name)) place;
+  long = each_at (λ row. length row ≡ length names) rows number [] (omega (arith, are.long)) are.wide;
+  each = λ name. are.each step name ∙ ap (λ (p : Option ℕ). mark_between rows p (place_of names name)) place;
 }
-  where
-    mark_between' : Option ℕ → Option ℕ → Bool
-    mark_between' None other = false
-    mark_between' (Some row) other = mark_at (get_or rows row []) other
-
-long : (rows : List (Vec Bool Global)) → length (map (λ row. row.items) rows) ≡ length rows
-long [] = refl
-long (row ∷ rows) = ap suc (long rows)
 
 pub rows_told : (is : Text → Text → Relation → Bool) (steps names : List Text) (relations : List Relation) (rows : List (Vec Bool Global)) (number : ℕ) (step : Text) (row : Vec Bool Global)
     → number < length steps → place_of steps step ≡ Some number → IsDistinct bytes_eq names → AreRows is steps names relations (map (λ row. row.items) rows) → row ≡ get_or rows number row
     → row.items ≡ each_of (is step) relations names
 rows_told is steps names relations rows number step row within place distinct are there =
     let marks = marks_of is steps names relations (map (λ row. row.items) rows) number step within place are in
-    stood (λ row. row.items) rows number row [] (omega (arith, are.long, long rows)) there ∙ row_told (is step) names relations (get_or (map (λ row. row.items) rows) number []) distinct marks
+    stood (λ row. row.items) rows number row [] (omega (arith, are.long, length-map rows (λ row. row.items))) there ∙ row_told (is step) names relations (get_or (map (λ row. row.items) rows) number []) distinct marks
 
 -- ---- a step of a tree without a fault
 
@@ -93,11 +77,7 @@ module _ (tree : Tree) (resolved : Resolved) (small : IsSmall tree) (none : tree
   tags = names_in (tags_of tree.declarations.items)
 
   named : (steps : List NamedStep) (index : ℕ) → slice_get steps index ≡ Some step → slice_get (step_names steps) index ≡ Some (text_of step.name)
-  named [] index h = absurd (cc)
-  named (first ∷ steps) zero h =
-      let same : first ≡ step = cc in
-      ap (λ (s : NamedStep). Some (text_of s.name)) same
-  named (first ∷ steps) (suc index) h = named steps index h
+  named steps index h = slice_get-map (λ (s : NamedStep). text_of s.name) steps index ∙ ap (option_map (λ (s : NamedStep). text_of s.name)) h
 
   pub its_place : place_of (step_names tree.steps.items) (text_of step.name) ≡ Some number
   its_place = own_place (step_names tree.steps.items) number (text_of step.name) (step_names_apart tree none) (named tree.steps.items number there)
@@ -132,12 +112,12 @@ module _ (tree : Tree) (resolved : Resolved) (small : IsSmall tree) (none : tree
   pub copied_row : (is : Text → Text → Relation → Bool) (names : List Text) (rows : List (Vec Bool Global)) (one two : Vec Bool Global) (copy row : List Bool)
       → AreRows is (step_names tree.steps.items) names tree.relations.items (map (λ row. row.items) rows) → one ≡ get_or rows number one → two ≡ get_or rows number two → copy ≡ two.items → row ≡ one.items → copy ≡ row
   copied_row is names rows one two copy row them here again copied same =
-      let both = again ∙ any_default rows number two one (omega (arith, is_within, them.long, long rows)) ∙ sym here in
+      let both = again ∙ any_default rows number two one (omega (arith, is_within, them.long, length-map rows (λ row. row.items))) ∙ sym here in
       copied ∙ ap (λ (v : Vec Bool Global). v.items) both ∙ sym same
 
   pub within_limits : (sheet : Nameable) → sheet.items ≡ resolved.items.declared.items → sheet.tags ≡ resolved.tags.declared.items → IsWithinLimits sheet step
   within_limits sheet same_items same_tags =
-      let it = small_step tree.steps.items number step there small.steps in
+      let it = each_found IsSmallStep tree.steps.items number step there small.steps in
       record {
         items = subst AreFew (sym (same_items ∙ are.items.declared)) small.items;
         tags = subst AreFew (sym (same_tags ∙ are.tags.declared)) small.tags;

@@ -1,5 +1,6 @@
 -- What the tokens of a text hold: names that are names, and numbers that are not too large.
-use Rattle.std.proofs.Common.{◌≡◌, ◌≢◌, ◌≤◌, ◌+◌, ◌-◌, ℕ, Bool, true, false, nat_lt, if◌then◌else◌, List, [], ◌∷◌, ◌++◌, length, refl, subst, arith}
+use Rattle.std.proofs.Common.{◌≡◌, ◌≢◌, ◌≤◌, ◌+◌, ◌-◌, ℕ, nat_lt, if◌then◌else◌, List, [], ◌∷◌, ◌++◌, length, subst, arith}
+use Rattle.std.proofs.lemmas.Bool.Decides.{nat_tests}
 use Rattle.std.specs.Prelude.{⊤}
 use Rattle.std.specs.List.{AllByRecursion}
 use Rattle.syntax.specs.declared.token.Word.{Word}
@@ -29,8 +30,6 @@ stands_sound unknown bytes rest stands = tt
 -- each piece that the tokens are derived from is sound too
 pub pieces_sound : (from : ℕ) (bytes : List ℕ) (spots : List Spot) (pieces : List Piece) → AreTokens from bytes spots → ArePieces pieces spots → AreSound pieces
 pieces_sound from bytes [] [] tokens are = tt
-pieces_sound from bytes [] (piece ∷ pieces) tokens are = absurd are
-pieces_sound from bytes (spot ∷ spots) [] tokens are = absurd are
 pieces_sound from bytes (spot ∷ spots) (piece ∷ pieces) tokens are =
     (one piece are.0, pieces_sound (spot.1 + (length tokens.1 - length tokens.2)) tokens.2 spots pieces tokens.7 are.1)
   where
@@ -40,6 +39,7 @@ pieces_sound from bytes (spot ∷ spots) (piece ∷ pieces) tokens are =
     one : (it : Piece) → IsPiece it spot → IsSoundPiece it
     one (plain lexeme) is = subst IsSound is sound
     one (at position lexeme) is = subst IsSound is.0 sound
+pieces_sound _ _ _ _ _ are = absurd (assumption)
 
 -- ---- parts
 
@@ -54,8 +54,4 @@ rear (x ∷ xs) ys all = rear xs ys all.1
 
 -- a limit that is not exceeded
 pub kept_to : (most it : ℕ) (place : Position) → (if nat_lt most it then place ∷ [] else []) ≡ [] → it ≤ most
-kept_to most it place none = by (nat_lt most it) refl none
-  where
-    by : (b : Bool) → nat_lt most it ≡ b → (if b then place ∷ [] else []) ≡ [] → it ≤ most
-    by true is none = absurd (cc)
-    by false is none = grind (arith, is)
+kept_to most it place none = grind (arith, nat_tests)

@@ -1,8 +1,9 @@
 -- Where nothing is marked there are no relations; and adding relations one after another.
-use Rattle.std.proofs.Common.{◌≡◌, ◌<◌, ℕ, zero, suc, Bool, false, List, [], ◌∷◌, ◌++◌, length, get_or, take, drop, Some, None, Option, refl, sym, ap, subst, ◌∙◌, ◌+◌}
+use Rattle.std.proofs.Common.{◌≡◌, ◌<◌, ℕ, zero, suc, Bool, false, List, [], ◌∷◌, ◌++◌, length, get_or, take, drop, Some, None, Option, refl, sym, ap, subst, ◌∙◌, ◌+◌, arith}
+use Rattle.std.proofs.Math.Seq.{take-length}
 use Rattle.std.specs.Prelude.{replicate}
 use Rattle.std.specs.List.{AllByRecursion}
-use Rattle.std.proofs.lemmas.List.{take_more}
+use Rattle.std.proofs.lemmas.List.{take_more, length-replicate, length-map}
 use Rattle.steptree.specs.declared.step.Name.{Name}
 use Rattle.steptree.specs.Names.{Text, place_of}
 use Rattle.graph.specs.Numbered.{names_numbered}
@@ -18,10 +19,6 @@ use Rattle.graph.specs.Tree.{is_read, is_item_put, is_tag_put, is_environment_it
 use Rattle.graph.proofs.FirstFaults.{in_front, empty_in_front}
 use Rattle.graph.proofs.Lists.{opened, past}
 
-long : {X : Type 0} (n : ℕ) (x : X) → length (replicate n x) ≡ n
-long zero x = refl
-long (suc n) x = ap suc (long n x)
-
 same_there : {X : Type 0} (n place : ℕ) (x : X) → get_or (replicate n x) place x ≡ x
 same_there zero place x = refl
 same_there (suc n) zero x = refl
@@ -33,38 +30,31 @@ no_mark n (Some place) = sym (same_there n place false)
 
 no_mark_between : (n width : ℕ) (row place : Option ℕ) → false ≡ mark_between (replicate n (replicate width false)) row place
 no_mark_between n width None place = refl
-no_mark_between n width (Some row) place = in_row n row
-  where
-    in_row : (n row : ℕ) → false ≡ mark_at (get_or (replicate n (replicate width false)) row []) place
-    in_row zero row = none place
-      where
-        none : (place : Option ℕ) → false ≡ mark_at [] place
-        none None = refl
-        none (Some k) = refl
-    in_row (suc n) zero = no_mark width place
-    in_row (suc n) (suc row) = in_row n row
+no_mark_between zero width (Some row) place = grind arith
+no_mark_between (suc n) width (Some zero) place = no_mark width place
+no_mark_between (suc n) width (Some (suc row)) place = no_mark_between n width (Some row) place
 
 wide : (n width : ℕ) → AllByRecursion (λ row. length row ≡ width) (replicate n (replicate width false))
 wide zero width = tt
-wide (suc n) width = (long width false, wide n width)
+wide (suc n) width = (length-replicate width false, wide n width)
 
 none_at : (n : ℕ) (place : Option ℕ) → prescriber_at (replicate n None) place ≡ None
 none_at n None = refl
 none_at n (Some place) = same_there n place None
 
 marks : (is : Text → Relation → Bool) (names : List Text) (row : List Bool) → row ≡ replicate (length names) false → AreMarks is names [] row
-marks is names row e = subst (AreMarks is names []) (sym e) (record { long = long (length names) false; each = λ name. no_mark (length names) (place_of names name) })
+marks is names row e = subst (AreMarks is names []) (sym e) (record { long = length-replicate (length names) false; each = λ name. no_mark (length names) (place_of names name) })
 
 rows : (is : Text → Text → Relation → Bool) (steps names : List Text) (them : List (List Bool)) → them ≡ replicate (length steps) (replicate (length names) false) → AreRows is steps names [] them
 rows is steps names them e = subst (AreRows is steps names []) (sym e) (record {
-  long = long (length steps) (replicate (length names) false);
+  long = length-replicate (length steps) (replicate (length names) false);
   wide = wide (length steps) (length names);
   each = λ step name. no_mark_between (length steps) (length names) (place_of steps step) (place_of names name);
 })
 
 pub unmarked : (items tags steps : List Text) (them : Relations) → IsUnmarked (length items) (length tags) (length steps) them → AreRelations items tags steps [] them
 unmarked items tags steps them are = record {
-  prescribers = subst (ArePrescribers tags steps []) (sym are.prescribers) (record { long = long (length steps) None; each = λ step. none_at (length steps) (place_of steps step) });
+  prescribers = subst (ArePrescribers tags steps []) (sym are.prescribers) (record { long = length-replicate (length steps) None; each = λ step. none_at (length steps) (place_of steps step) });
   reads = rows (λ step item. is_read item step) steps items (bits them.reads) are.reads;
   item_puts = rows is_item_put steps items (bits them.item_puts) are.item_puts;
   tag_puts = rows is_tag_put steps tags (bits them.tag_puts) are.tag_puts;
@@ -97,15 +87,10 @@ module _ (items tags steps : List Text) (all : List Relation) where
     first_related fault first = subst (λ (l : List At). IsFirst l fault) (sym here) (in_front (relation_fault items tags steps (take index all) this) _ fault first)
 
   pub all_related : (index : ℕ) (them : Relations) → index ≡ length all → RelatedSoFar index them → (relation_faults items tags steps [] all ≡ []) × AreRelations items tags steps all them
-  all_related index them end so = (so.left ∙ ap (relation_faults items tags steps (take index all)) (past all index end), subst (λ (l : List Relation). AreRelations items tags steps l them) (ap (λ (n : ℕ). take n all) end ∙ take_whole all) so.are)
-    where
-      take_whole : (l : List Relation) → take (length l) l ≡ l
-      take_whole [] = refl
-      take_whole (x ∷ l) = ap (λ m. x ∷ m) (take_whole l)
+  all_related index them end so = (so.left ∙ ap (relation_faults items tags steps (take index all)) (past all index end), subst (λ (l : List Relation). AreRelations items tags steps l them) (ap (λ (n : ℕ). take n all) end ∙ take-length all) so.are)
 
 names_long : {V : Type 0} (numbered : List (Text × V)) → length (names_numbered numbered) ≡ length numbered
-names_long [] = refl
-names_long (entry ∷ numbered) = ap suc (names_long numbered)
+names_long numbered = length-map numbered (λ entry. entry.0)
 
 -- where nothing is marked, no relation has been added yet
 pub begun : (items tags steps : List Text) (all : List Relation) (numbers : Numbers) (i t s : ℕ) (them : Relations) → AreNumbers items tags steps numbers → i ≡ length numbers.items.now → t ≡ length numbers.tags.now

@@ -1,6 +1,5 @@
 -- A text that reads as a graph has no fault but `NoMemory`.
-use Rattle.std.proofs.Common.{◌≡◌, ◌≤◌, ◌<◌, inl, inr, ℕ, zero, suc, List, [], ◌∷◌, ◌++◌, length, map, Some, slice_get, refl, sym, ap, subst, ◌∙◌, arith}
-use Rattle.std.specs.List.{AllByRecursion}
+use Rattle.std.proofs.Common.{◌≡◌, ◌<◌, inl, inr, ℕ, List, [], ◌∷◌, ◌++◌, length, map, Some, slice_get, refl, sym, ap, subst, ◌∙◌, arith}
 use Rattle.steptree.specs.declared.step.Step.{Step as NamedStep}
 use Rattle.steptree.specs.CheckFaults.{faults_of, block_faults}
 use Rattle.steptree.specs.Names.{names_of}
@@ -22,11 +21,11 @@ use Rattle.graph.specs.Graph.{Step, Graph}
 use Rattle.graph.specs.Reads.{Reads, body_faults, IsTreeFault, IsFirstFault, IsCause, HasCause, no_memory}
 use Rattle.graph.specs.Textual.{OneGraph}
 use Rattle.graph.specs.Tree.{sheet_in, IsStepOf, IsGraphOf}
-use Rattle.graph.proofs.AlikeFaults.{faults_same}
 use Rattle.graph.proofs.AlikeGraphs.{names_are}
-use Rattle.graph.proofs.AlikeSheets.{SharesNames, shared, sheet_same}
+use Rattle.graph.proofs.Bare.{SharesNames, shared, sheet_same, faults_same}
 use Rattle.graph.proofs.AlikeTrees.{statements_alike, get_alike, put_alike}
 use Rattle.graph.proofs.BodiesWithoutFault.{block_clear}
+use Rattle.graph.proofs.Lists.{each_found}
 
 -- ---- bodies
 
@@ -42,15 +41,11 @@ module _ (t u : Tree) (g : Graph) (same : SharesNames t u) where
 
   bodies_clear : (texts : List StepText) (ones twos : List NamedStep) (steps : List Step) → AreAll IsStep texts ones → AreAll IsStep texts twos → AreAll (IsStepOf t g) ones steps → body_faults u twos ≡ []
   bodies_clear [] [] [] steps a b are = refl
-  bodies_clear [] [] (two ∷ twos) steps a b are = absurd b
-  bodies_clear [] (one ∷ ones) twos steps a b are = absurd a
-  bodies_clear (text ∷ texts) [] twos steps a b are = absurd a
-  bodies_clear (text ∷ texts) (one ∷ ones) [] steps a b are = absurd b
-  bodies_clear (text ∷ texts) (one ∷ ones) (two ∷ twos) [] a b are = absurd are
   bodies_clear (text ∷ texts) (one ∷ ones) (two ∷ twos) (step ∷ steps) a b are =
       let first = step_clear text one two step a.0 b.0 are.0 in
       let rest = bodies_clear texts ones twos steps a.1 b.1 are.1 in
       λ i. first i ++ rest i
+  bodies_clear _ _ _ _ a b are = absurd (assumption)
 
 -- ---- trees
 
@@ -62,14 +57,6 @@ tree_clear graph t u g kind position a b is none fault =
     cc
 
 -- ---- texts
-
-not_large : (text : List ℕ) (position byte : ℕ) → AllByRecursion (λ it. it < 128) text → slice_get text position ≡ Some byte → 128 ≤ byte → ⊥
-not_large [] position byte all there large = absurd (cc)
-not_large (it ∷ text) zero byte all there large =
-    let same : it ≡ byte = cc in
-    let small : it < 128 = all.0 in
-    omega (arith, same, small, large)
-not_large (it ∷ text) (suc position) byte all there large = not_large text position byte all.1 there large
 
 module _ (once : TokensOnce) (derived : OneDerivation) (no_syntax : ReadWithoutFault) (one_graph : OneGraph) (text : List ℕ) (g : Graph) (reads : Reads text g) where
   abbrev read : IsRead text reads.tree
@@ -83,7 +70,7 @@ module _ (once : TokensOnce) (derived : OneDerivation) (no_syntax : ReadWithoutF
       tree_clear read.graph reads.tree fault.tree g kind position read.is (subst (λ (graph : GraphText). IsTree graph fault.tree) same fault.read.is) reads.graph reads.no_fault fault.first
 
   no_cause : (kind : GraphError) (position : ℕ) → IsCause text kind position → ⊥
-  no_cause error.NotAscii position cause = not_large text position cause.byte reads.ascii cause.there cause.large
+  no_cause error.NotAscii position cause = (let small : cause.byte < 128 = each_found (λ byte. byte < 128) text position cause.byte cause.there reads.ascii in let large = cause.large in omega (arith, small, large))
   no_cause error.Syntax position cause =
       let none : syntax_error.Syntax ≡ syntax_error.NoMemory = no_syntax text reads.tree (record { error = syntax_error.Syntax; place = position }) read cause.1 in
       cc
@@ -98,14 +85,7 @@ module _ (once : TokensOnce) (derived : OneDerivation) (no_syntax : ReadWithoutF
       let none : syntax_error.TooLarge ≡ syntax_error.NoMemory = no_syntax text reads.tree (record { error = syntax_error.TooLarge; place = position }) read cause.1 in
       cc
   no_cause error.NoMemory position cause = cause
-  no_cause error.Redeclared position cause = not_first error.Redeclared position cause.1
-  no_cause error.UnknownName position cause = not_first error.UnknownName position cause.1
-  no_cause error.Arity position cause = not_first error.Arity position cause.1
-  no_cause error.NoPrescriber position cause = not_first error.NoPrescriber position cause.1
-  no_cause error.TwoPrescribers position cause = not_first error.TwoPrescribers position cause.1
-  no_cause error.StepMissing position cause = not_first error.StepMissing position cause.1
-  no_cause error.StepTwice position cause = not_first error.StepTwice position cause.1
-  no_cause (error.Check kind) position cause = not_first (error.Check kind) position cause.1
+  no_cause kind position cause = not_first kind position cause.1
 
   pub no_fault : (fault : GraphFault) → HasCause text fault → fault ≡ no_memory
   no_fault fault (inl same) = same

@@ -1,14 +1,15 @@
 -- The canonical text, one part after another.
 use Rattle.std.proofs.Common.{◌≡◌, ◌+◌, ◌-◌, ◌<◌, ℕ, zero, suc, min, Bool, true, false, List, [], ◌∷◌, ◌++◌, length, map, get_or, drop, take, Option, Some, None, refl, sym, ap, subst, ◌∙◌, Result, OnOk, slice_get, arith, append_assoc, length-append, length-drop}
+use Rattle.std.proofs.Math.Seq.{take-length}
 use Rattle.std.specs.Prelude.{codes, unwrap_or}
 use Rattle.std.proofs.lemmas.Option.{unwrap_or-slice_get}
-use Rattle.std.proofs.lemmas.List.{take_min}
+use Rattle.std.proofs.lemmas.List.{take_min, take-map, drop-map}
 use Rattle.std.specs.List.{flat_map, zip}
+use Rattle.std.proofs.lemmas.List.{append-nil}
 use Rattle.steptree.specs.Names.{Text}
 use Rattle.graph.specs.Canonical.{line, marked, joined, with_colon, letters, component_names, declaration_lines, in_rounds, variables_line}
 use Rattle.graph.specs.Collected.{collections_numbered}
 use Rattle.graph.specs.Pieces.{indentation, where_marked, after_colon, declaration_at, where_there}
-use Rattle.graph.proofs.Lists.{with_none}
 
 -- what is written, with what is still to come, stays the same
 pub goes_on : (text piece left more whole new : Text) → new ≡ text ++ piece → left ≡ piece ++ more → text ++ left ≡ whole → new ++ more ≡ whole
@@ -42,53 +43,33 @@ one_level_more level =
 
 -- ---- marks
 
+drop_none : {X : Type 0} (number : ℕ) → drop {A = X} number [] ≡ []
+drop_none zero = refl
+drop_none (suc number) = refl
+
+marked_none : (names : List Text) → marked (zip names []) ≡ []
+marked_none [] = refl
+marked_none (name ∷ names) = refl
+
+unmarked : (text : Text → Text) (name : Option Text) → where_marked text name false ≡ []
+unmarked text None = refl
+unmarked text (Some name) = refl
+
 -- the text of the names that are left: that of the first of them, and that of those after it
 pub marked_left : (text : Text → Text) (names : List Text) (marks : List Bool) (number : ℕ)
     → flat_map text (marked (zip (drop number names) (drop number marks)))
     ≡ where_marked text (slice_get names number) (get_or marks number false) ++ flat_map text (marked (zip (drop (number + 1) names) (drop (number + 1) marks)))
-marked_left text names marks number =
-    let e : suc number ≡ number + 1 = omega arith in
-    at names marks number
-    ∙ ap (λ (n : ℕ). where_marked text (slice_get names number) (get_or marks number false) ++ flat_map text (marked (zip (drop n names) (drop n marks)))) e
-  where
-    head : (name : Text) (mark : Bool) (names : List Text) (marks : List Bool)
-        → flat_map text (marked ((name, mark) ∷ zip names marks)) ≡ where_marked text (Some name) mark ++ flat_map text (marked (zip names marks))
-    head name true names marks = refl
-    head name false names marks = refl
-
-    unmarked : (name : Option Text) → where_marked text name false ≡ []
-    unmarked None = refl
-    unmarked (Some name) = refl
-
-    nothing : (names : List Text) → flat_map text (marked (zip names [])) ≡ []
-    nothing [] = refl
-    nothing (name ∷ names) = refl
-
-    none_left : {X : Type 0} (number : ℕ) → drop {A = X} number [] ≡ []
-    none_left zero = refl
-    none_left (suc number) = refl
-
-    no_names : (number : ℕ) (marks : List Bool) → flat_map text (marked (zip (drop number []) marks)) ≡ []
-    no_names number marks = ap (λ (l : List Text). flat_map text (marked (zip l marks))) (none_left number)
-
-    no_marks : (number : ℕ) (names : List Text) → flat_map text (marked (zip names (drop number []))) ≡ []
-    no_marks number names = ap (λ (l : List Bool). flat_map text (marked (zip names l))) (none_left number) ∙ nothing names
-
-    at : (names : List Text) (marks : List Bool) (number : ℕ)
-        → flat_map text (marked (zip (drop number names) (drop number marks)))
-        ≡ where_marked text (slice_get names number) (get_or marks number false) ++ flat_map text (marked (zip (drop (suc number) names) (drop (suc number) marks)))
-    at [] marks number = no_names number (drop number marks) ∙ sym (no_names (suc number) (drop (suc number) marks))
-    at (name ∷ names) [] number =
-        no_marks number (drop number (name ∷ names))
-        ∙ sym (ap (λ (t : Text). t ++ flat_map text (marked (zip (drop (suc number) (name ∷ names)) (drop (suc number) [])))) (unmarked (slice_get (name ∷ names) number))
-        ∙ no_marks (suc number) (drop (suc number) (name ∷ names)))
-    at (name ∷ names) (mark ∷ marks) zero = head name mark names marks
-    at (name ∷ names) (mark ∷ marks) (suc number) = at names marks number
+marked_left text [] marks number = simp drop_none
+marked_left text (name ∷ names) [] zero = simp marked_none
+marked_left text (name ∷ names) [] (suc number) = simp (drop_none, marked_none, unmarked)
+marked_left text (name ∷ names) (true ∷ marks) zero = refl
+marked_left text (name ∷ names) (false ∷ marks) zero = refl
+marked_left text (name ∷ names) (mark ∷ marks) (suc number) = grind (arith, marked_left text names marks number)
 
 -- ---- names and what follows them
 
 pub colon_behind : (name : Text) (texts : List Text) → with_colon name texts ≡ name ++ after_colon texts
-colon_behind name [] = sym (with_none name)
+colon_behind name [] = sym (append-nil name)
 colon_behind name (first ∷ more) = append_assoc name (codes ": ") (joined (first ∷ more))
 
 -- the first `count` of these, each after its comma
@@ -123,45 +104,21 @@ letters_put now pieces count result text new components wrote few are =
 -- nothing is written if there is no name
 pub no_name : (text : Text) (names : List Text) (number : ℕ) → None ≡ slice_get names number → text ≡ text ++ get_or names number []
 no_name text names number none =
-    sym (ap (λ (t : Text). text ++ t) (sym (unwrap_or-slice_get names number []) ∙ ap (λ (o : Option Text). unwrap_or o []) (sym none)) ∙ with_none text)
+    sym (ap (λ (t : Text). text ++ t) (sym (unwrap_or-slice_get names number []) ∙ ap (λ (o : Option Text). unwrap_or o []) (sym none)) ∙ append-nil text)
 
 -- ---- declarations
 
 pub declarations_left : (brackets : Text → Text) (collections : List (Text × ℕ)) (number : ℕ)
     → declaration_lines brackets (collections_numbered (drop number collections)) ≡ declaration_at brackets (slice_get collections number) ++ declaration_lines brackets (collections_numbered (drop (number + 1) collections))
-declarations_left brackets collections number =
-    let e : suc number ≡ number + 1 = omega arith in
-    at collections number ∙ ap (λ (n : ℕ). declaration_at brackets (slice_get collections number) ++ declaration_lines brackets (collections_numbered (drop n collections))) e
-  where
-    none_left : {X : Type 0} (number : ℕ) → drop {A = X} number [] ≡ []
-    none_left zero = refl
-    none_left (suc number) = refl
-
-    at : (collections : List (Text × ℕ)) (number : ℕ)
-        → declaration_lines brackets (collections_numbered (drop number collections)) ≡ declaration_at brackets (slice_get collections number) ++ declaration_lines brackets (collections_numbered (drop (suc number) collections))
-    at [] number = ap (λ (l : List (Text × ℕ)). declaration_lines brackets (collections_numbered l)) (none_left number)
-    at (first ∷ collections) zero = refl
-    at (first ∷ collections) (suc number) = at collections number
+declarations_left brackets [] number = simp drop_none
+declarations_left brackets (first ∷ collections) zero = refl
+declarations_left brackets (first ∷ collections) (suc number) = grind (arith, declarations_left brackets collections number)
 
 -- ---- steps
 
 module _ {X : Type 0} (text_of : X → Text) where
-  taken : (count : ℕ) (names : List X) → map text_of (take count names) ≡ take count (map text_of names)
-  taken zero names = refl
-  taken (suc count) [] = refl
-  taken (suc count) (name ∷ names) = ap (λ l. text_of name ∷ l) (taken count names)
-
-  left : (count : ℕ) (names : List X) → map text_of (drop count names) ≡ drop count (map text_of names)
-  left zero names = refl
-  left (suc count) [] = refl
-  left (suc count) (name ∷ names) = left count names
-
   whole : (names : List X) (count : ℕ) → count ≡ length names → take count names ≡ names
-  whole names count all = ap (λ (n : ℕ). take n names) all ∙ at names
-    where
-      at : (names : List X) → take (length names) names ≡ names
-      at [] = refl
-      at (name ∷ names) = ap (λ l. name ∷ l) (at names)
+  whole names count all = ap (λ (n : ℕ). take n names) all ∙ take-length names
 
   -- the first `count` names are the parameters
   pub heading : (text one two name : Text) (names : List X) (count : ℕ) → one ≡ text ++ line 0 (codes "step " ++ name ++ in_rounds (joined (map text_of (take count names))) ++ codes " {")
@@ -171,19 +128,12 @@ module _ {X : Type 0} (text_of : X → Text) where
       second ∙ ap (λ (l : List X). one ++ variables_line (map text_of l)) (whole (drop count names) (length names - count) (sym (length-drop count names)))
       ∙ ap (λ (t : Text). t ++ variables_line (map text_of (drop count names))) first
       ∙ append_assoc text (line 0 (codes "step " ++ name ++ in_rounds (joined (map text_of (take count names))) ++ codes " {")) (variables_line (map text_of (drop count names)))
-      ∙ ap (λ (l : List Text). text ++ (line 0 (codes "step " ++ name ++ in_rounds (joined l) ++ codes " {") ++ variables_line (map text_of (drop count names)))) (taken count names)
-      ∙ ap (λ (l : List Text). text ++ (line 0 (codes "step " ++ name ++ in_rounds (joined (take count (map text_of names))) ++ codes " {") ++ variables_line l)) (left count names)
+      ∙ (λ i. text ++ (line 0 (codes "step " ++ name ++ in_rounds (joined (sym (take-map text_of count names) i)) ++ codes " {") ++ variables_line (sym (drop-map text_of count names) i)))
 
 -- ---- lists of which each element is written
 
 -- the text of the elements that are left: that of the first of them, and that of those after it
 pub steps_left : {X : Type 0} (text : X → Text) (steps : List X) (number : ℕ) → flat_map text (drop number steps) ≡ where_there text (slice_get steps number) ++ flat_map text (drop (number + 1) steps)
-steps_left text steps number =
-    let e : suc number ≡ number + 1 = omega arith in
-    at text steps number ∙ ap (λ (n : ℕ). where_there text (slice_get steps number) ++ flat_map text (drop n steps)) e
-  where
-    at : {X : Type 0} (text : X → Text) (steps : List X) (number : ℕ) → flat_map text (drop number steps) ≡ where_there text (slice_get steps number) ++ flat_map text (drop (suc number) steps)
-    at text [] zero = refl
-    at text [] (suc number) = refl
-    at text (step ∷ steps) zero = refl
-    at text (step ∷ steps) (suc number) = at text steps number
+steps_left text [] number = simp drop_none
+steps_left text (step ∷ steps) zero = refl
+steps_left text (step ∷ steps) (suc number) = grind (arith, steps_left text steps number)

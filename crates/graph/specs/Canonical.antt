@@ -4,17 +4,19 @@ use Rattle.std.specs.List.{flat_map, zip}
 use Rattle.std.specs.Fmt.{decimal}
 use Rattle.steptree.specs.declared.expression.Operator.{Operator}
 use Rattle.steptree.specs.declared.expression.Operator.TheVariants as operator
-use Rattle.steptree.specs.declared.expression.Expression.{Expression}
-use Rattle.steptree.specs.declared.block.Block.{Block}
-use Rattle.steptree.specs.Tree.{Number, Variable, Negation, Operation, End, Assign, If, For, Get, PutItem, PutTag}
+use Rattle.steptree.specs.Tree.{Expression, Block, Number, Variable, Negation, Operation, End, Assign, If, For, Get, PutItem, PutTag}
 use Rattle.steptree.specs.Names.{Text, names_in}
 use Rattle.steptree.specs.Nameable.{Collection}
 use Rattle.graph.specs.Graph.{Step, Graph}
 
+-- these texts, each after ", "
+abbrev pub after_commas : List Text → Text
+after_commas texts = flat_map (λ text. codes ", " ++ text) texts
+
 -- these texts, with ", " between them
 abbrev pub joined : List Text → Text
 joined [] = []
-joined (first ∷ more) = first ++ flat_map (λ text. codes ", " ++ text) more
+joined (first ∷ more) = first ++ after_commas more
 
 -- a line, indented by this number of levels
 abbrev pub line : ℕ → Text → Text
@@ -26,14 +28,18 @@ abbrev pub with_colon : Text → List Text → Text
 with_colon name [] = name
 with_colon name (first ∷ more) = name ++ codes ": " ++ joined (first ∷ more)
 
+-- a text between these two
+abbrev pub between : Text → Text → Text → Text
+between opening closing text = opening ++ text ++ closing
+
 abbrev pub in_brackets : Text → Text
-in_brackets text = codes "[" ++ text ++ codes "]"
+in_brackets text = between (codes "[") (codes "]") text
 
 abbrev pub in_angles : Text → Text
-in_angles text = codes "<" ++ text ++ codes ">"
+in_angles text = between (codes "<") (codes ">") text
 
 abbrev pub in_rounds : Text → Text
-in_rounds text = codes "(" ++ text ++ codes ")"
+in_rounds text = between (codes "(") (codes ")") text
 
 -- ---- declarations and relations
 
@@ -45,8 +51,16 @@ letters = codes "i" ∷ codes "j" ∷ codes "k" ∷ codes "l" ∷ codes "m" ∷ 
 abbrev pub component_names : ℕ → List Text
 component_names components = take components letters
 
+-- the declaration of a collection with this name and this number of components
+abbrev pub declaration_line : (Text → Text) → Text → ℕ → Text
+declaration_line brackets name components = line 0 (brackets (with_colon name (component_names components)) ++ codes ";")
+
 abbrev pub declaration_lines : (Text → Text) → List Collection → Text
-declaration_lines brackets collections = flat_map (λ collection. line 0 (brackets (with_colon collection.name (component_names collection.components)) ++ codes ";")) collections
+declaration_lines brackets collections = flat_map (λ collection. declaration_line brackets collection.name collection.components) collections
+
+-- all declarations: the items first
+abbrev pub declarations_text : Graph → Text
+declarations_text g = declaration_lines in_brackets g.items ++ declaration_lines in_angles g.tags
 
 -- the names that are marked
 abbrev pub marked : List (Text × Bool) → List Text
@@ -60,9 +74,13 @@ those collections marks = marked (zip (names_in collections) marks)
 abbrev pub arrow : Text → Text → Text
 arrow from to = line 0 (from ++ codes " -> " ++ to ++ codes ";")
 
+-- the tag collection with this number prescribes the step with this name
+abbrev pub prescription_line : Graph → ℕ → Text → Text
+prescription_line g tag name = line 0 (in_angles (get_or (names_in g.tags) tag []) ++ codes " :: " ++ in_rounds name ++ codes ";")
+
 abbrev pub step_relations : Graph → Step → Text
 step_relations g step =
-    line 0 (in_angles (get_or (names_in g.tags) step.prescriber []) ++ codes " :: " ++ in_rounds step.name ++ codes ";")
+    prescription_line g step.prescriber step.name
     ++ flat_map (λ item. arrow (in_brackets item) (in_rounds step.name)) (those g.items step.reads)
     ++ flat_map (λ item. arrow (in_rounds step.name) (in_brackets item)) (those g.items step.item_puts)
     ++ flat_map (λ tag. arrow (in_rounds step.name) (in_angles tag)) (those g.tags step.tag_puts)
@@ -109,31 +127,71 @@ module _ (g : Graph) (names : List Text) where
   abbrev pub tag_text : ℕ → List Expression → Text
   tag_text number components = in_angles (with_colon (get_or (names_in g.tags) number []) (map expression_text components))
 
+  -- ---- the lines of a statement, each at a level
+
+  -- `x = e;`
+  abbrev pub assignment_line : ℕ → ℕ → Expression → Text
+  assignment_line level slot value = line level (variable_text slot ++ codes " = " ++ expression_text value ++ codes ";")
+
+  -- the first line of a choice and of a loop
+  abbrev pub condition_line : ℕ → Expression → Text
+  condition_line level condition = line level (codes "if " ++ in_rounds (expression_text condition) ++ codes " {")
+
+  abbrev pub range_line : ℕ → ℕ → Expression → Expression → Text
+  range_line level slot from to = line level (codes "for " ++ variable_text slot ++ codes " in " ++ expression_text from ++ codes " .. " ++ expression_text to ++ codes " {")
+
+  -- a choice and a loop around the texts of their blocks
+  abbrev pub choice_around : ℕ → Expression → Text → Text → Text
+  choice_around level condition first second = condition_line level condition ++ first ++ line level (codes "} else {") ++ second ++ line level (codes "}")
+
+  abbrev pub loop_around : ℕ → ℕ → Expression → Expression → Text → Text
+  loop_around level slot from to block = range_line level slot from to ++ block ++ line level (codes "}")
+
+  -- `get x = [c: k];`, `put [c: k] = e;` and `put <c: k>;`
+  abbrev pub get_line : ℕ → ℕ → ℕ → List Expression → Text
+  get_line level slot item components = line level (codes "get " ++ variable_text slot ++ codes " = " ++ item_text item components ++ codes ";")
+
+  abbrev pub put_item_line : ℕ → ℕ → List Expression → Expression → Text
+  put_item_line level item components value = line level (codes "put " ++ item_text item components ++ codes " = " ++ expression_text value ++ codes ";")
+
+  abbrev pub put_tag_line : ℕ → ℕ → List Expression → Text
+  put_tag_line level tag components = line level (codes "put " ++ tag_text tag components ++ codes ";")
+
+  -- ---- blocks
+
   -- a block, one statement a line, indented by `level` levels
   abbrev pub block_text : ℕ → Block → Text
   block_text level End = []
-  block_text level (Assign slot value rest) = line level (variable_text slot ++ codes " = " ++ expression_text value ++ codes ";") ++ block_text level rest
-  block_text level (If condition first second rest) =
-      line level (codes "if " ++ in_rounds (expression_text condition) ++ codes " {") ++ block_text (suc level) first
-      ++ line level (codes "} else {") ++ block_text (suc level) second ++ line level (codes "}") ++ block_text level rest
-  block_text level (For slot from to block rest) =
-      line level (codes "for " ++ variable_text slot ++ codes " in " ++ expression_text from ++ codes " .. " ++ expression_text to ++ codes " {")
-      ++ block_text (suc level) block ++ line level (codes "}") ++ block_text level rest
-  block_text level (Get slot collection components rest) =
-      line level (codes "get " ++ variable_text slot ++ codes " = " ++ item_text collection.0 components ++ codes ";") ++ block_text level rest
-  block_text level (PutItem collection components value rest) =
-      line level (codes "put " ++ item_text collection.0 components ++ codes " = " ++ expression_text value ++ codes ";") ++ block_text level rest
-  block_text level (PutTag collection components rest) = line level (codes "put " ++ tag_text collection.0 components ++ codes ";") ++ block_text level rest
+  block_text level (Assign slot value rest) = assignment_line level slot value ++ block_text level rest
+  block_text level (If condition first second rest) = choice_around level condition (block_text (suc level) first) (block_text (suc level) second) ++ block_text level rest
+  block_text level (For slot from to block rest) = loop_around level slot from to (block_text (suc level) block) ++ block_text level rest
+  block_text level (Get slot collection components rest) = get_line level slot collection.0 components ++ block_text level rest
+  block_text level (PutItem collection components value rest) = put_item_line level collection.0 components value ++ block_text level rest
+  block_text level (PutTag collection components rest) = put_tag_line level collection.0 components ++ block_text level rest
+
+  -- a choice and a loop, with their blocks
+  abbrev pub choice_text : ℕ → Expression → Block → Block → Text
+  choice_text level condition first second = choice_around level condition (block_text (suc level) first) (block_text (suc level) second)
+
+  abbrev pub loop_text : ℕ → ℕ → Expression → Expression → Block → Text
+  loop_text level slot from to block = loop_around level slot from to (block_text (suc level) block)
 
 -- the line of the variables, if there are any
 abbrev pub variables_line : List Text → Text
 variables_line [] = []
 variables_line (first ∷ more) = line 1 (codes "var " ++ joined (first ∷ more) ++ codes ";")
 
+-- the first line of a step, by its name and the names of its parameters
+abbrev pub step_line : Text → List Text → Text
+step_line name parameters = line 0 (codes "step " ++ name ++ in_rounds (joined parameters) ++ codes " {")
+
+-- the first line, and the line of the variables; the first `parameters` names are those of the parameters
+abbrev pub heading_text : Text → List Text → ℕ → Text
+heading_text name names parameters = step_line name (take parameters names) ++ variables_line (drop parameters names)
+
 abbrev pub step_text : Graph → Step → Text
 step_text g step =
-    line 0 (codes "step " ++ step.name ++ in_rounds (joined (take step.parameters step.names)) ++ codes " {")
-    ++ variables_line (drop step.parameters step.names)
+    heading_text step.name step.names step.parameters
     ++ line 1 (codes "read {") ++ block_text g step.names 2 step.body.read ++ line 1 (codes "}")
     ++ line 1 (codes "write {") ++ block_text g step.names 2 step.body.write ++ line 1 (codes "}")
     ++ line 0 (codes "}")
@@ -142,5 +200,4 @@ step_text g step =
 
 abbrev pub canonical : Graph → Text
 canonical g =
-    declaration_lines in_brackets g.items ++ declaration_lines in_angles g.tags ++ flat_map (step_relations g) g.steps ++ environment_relations g
-    ++ flat_map (step_text g) g.steps
+    declarations_text g ++ flat_map (step_relations g) g.steps ++ environment_relations g ++ flat_map (step_text g) g.steps

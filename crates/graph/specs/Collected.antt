@@ -19,7 +19,11 @@ of_name name components = record { name = text_of name; components = components 
 abbrev pub collections_numbered : List (Text × ℕ) → List Collection
 collections_numbered numbered = map collection_seen numbered
 
+-- the collections by their numbers, with their names
+abbrev pub collections_of : Collections → List Collection
+collections_of them = collections_numbered them.numbered
+
 -- these are the collections, as they are declared and by their numbers
 pub record AreCollected (collections : List Collection) (them : Collections) : Type 0 where
   pub declared : them.declared.items ≡ collections
-  pub numbered : collections_numbered them.numbered ≡ collections
+  pub numbered : collections_of them ≡ collections

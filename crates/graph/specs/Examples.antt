@@ -1,8 +1,7 @@
 -- A worked example: a graph of Fibonacci numbers, and its canonical text.
 use Rattle.std.specs.Prelude.{◌≡◌, ℕ, pos, true, false, List, [], ◌∷◌, ◌++◌, codes, length}
 use Rattle.steptree.specs.declared.expression.Operator.TheVariants as operator
-use Rattle.steptree.specs.declared.expression.Expression.{Expression}
-use Rattle.steptree.specs.Tree.{Number, Variable, Operation, End, Get, PutItem}
+use Rattle.steptree.specs.Tree.{Expression, Number, Variable, Operation, End, Get, PutItem}
 use Rattle.graph.specs.Graph.{Graph}
 use Rattle.graph.specs.Canonical.{canonical}
 

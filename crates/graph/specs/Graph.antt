@@ -1,5 +1,5 @@
 -- A graph: its collections by their numbers, and the relations between them.
-use Rattle.std.specs.Prelude.{◌≡◌, ◌≤◌, ℕ, ℤ, Bool, true, false, List, length, get_or, slice_get, Some}
+use Rattle.std.specs.Prelude.{◌≡◌, ◌≤◌, ℕ, ℤ, Bool, true, false, List, length, get_or, slice_get, Option, Some, option_map}
 use Rattle.terms.specs.declared.name.Addr.{Addr}
 use Rattle.terms.specs.declared.name.Tag.{Tag}
 use Rattle.terms.specs.declared.name.Inst.{Inst}
@@ -37,6 +37,16 @@ pub record Graph : Type 0 where
 -- the step with this number
 abbrev pub IsStep : Graph → ℕ → Step → Type 0
 IsStep g number step = slice_get g.steps number ≡ Some step
+
+-- the body of that step, the names in it, and how many of these are parameters, if there is such a step
+abbrev pub body_at : Graph → ℕ → Option Body
+body_at g number = option_map (λ step. step.body) (slice_get g.steps number)
+
+abbrev pub names_at : Graph → ℕ → Option (List (List ℕ))
+names_at g number = option_map (λ step. step.names) (slice_get g.steps number)
+
+abbrev pub parameters_at : Graph → ℕ → Option ℕ
+parameters_at g number = option_map (λ step. step.parameters) (slice_get g.steps number)
 
 -- there is a collection with this number, and its keys have this number of components
 abbrev pub IsOf : List Collection → ℕ → ℕ → Type 0

@@ -1,6 +1,7 @@
 -- Which steps a tag collection prescribes.
-use Rattle.std.specs.Prelude.{◌≡◌, ◌↔◌, ◌<◌, ℕ, suc, Bool, false, List, [], ◌∷◌, map, length, Option, Some, None, get_or, slice_get, ◌==◌, if◌then◌else◌, Vec}
+use Rattle.std.specs.Prelude.{◌≡◌, ◌↔◌, ◌<◌, ℕ, suc, Bool, false, List, [], ◌∷◌, ◌++◌, map, length, Option, Some, None, get_or, slice_get, ◌==◌, if◌then◌else◌, Vec}
 use Rattle.std.specs.List.{Contains}
+use Rattle.std.proofs.Math.ListN.{set}
 use Rattle.std.specs.declared.alloc.Global.{Global}
 use Rattle.terms.specs.declared.name.Inst.{Inst}
 use Rattle.terms.specs.declared.name.StepCollection.{StepCollection}
@@ -36,6 +37,10 @@ mark_of marks g step number = mark_in marks (slice_get g.steps step) number
 -- the numbers of the steps in each list
 abbrev pub numbers_of : List (Vec StepCollection Global) → List (List ℕ)
 numbers_of lists = map (λ steps. map (λ step. step.0) steps.items) lists
+
+-- the lists with one step more in that of a tag collection
+abbrev pub with_step : List (List ℕ) → ℕ → ℕ → List (List ℕ)
+with_step lists tag step = set lists tag (get_or lists tag [] ++ step ∷ [])
 
 -- there is a list for each of `tags` tag collections, of the numbers of the steps that it prescribes, in ascending order
 pub record ArePrescriptions (steps : List Step) (tags : ℕ) (lists : List (List ℕ)) : Type 0 where

@@ -79,6 +79,10 @@ pub record IsLong (tree : Tree) : Type 0 where
   pub graph : IsGraphOf tree g
   pub long : MOST_TEXT < length (canonical g)
 
+-- the text itself, and each of its bytes is below 128
+abbrev pub IsAsciiText : List ℕ → List ℕ → Type 0
+IsAsciiText text plain = (plain ≡ text) × AllByRecursion (λ byte. byte < 128) text
+
 -- the cause of a fault at a position
 abbrev pub IsCause : List ℕ → GraphError → ℕ → Type 0
 IsCause text error.NotAscii position = IsNotAscii text position

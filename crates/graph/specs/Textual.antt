@@ -2,9 +2,7 @@
 use Rattle.std.specs.Prelude.{◌≡◌, ◌≢◌, ◌≤◌, ◌<◌, ⊤, ℕ, suc, pos, max, List, [], length, get_or}
 use Rattle.std.specs.List.{AllByRecursion}
 use Rattle.terms.specs.declared.key.TheConstants.{MAX_COMPONENTS}
-use Rattle.steptree.specs.declared.expression.Expression.{Expression}
-use Rattle.steptree.specs.declared.block.Block.{Block}
-use Rattle.steptree.specs.Tree.{Number, Variable, Negation, Operation, End, Assign, If, For, Get, PutItem, PutTag}
+use Rattle.steptree.specs.Tree.{Expression, Block, Number, Variable, Negation, Operation, End, Assign, If, For, Get, PutItem, PutTag}
 use Rattle.steptree.specs.Names.{Text, names_in}
 use Rattle.syntax.specs.declared.token.Word.{Word}
 use Rattle.syntax.specs.declared.limits.TheConstants.{MOST_NAME_BYTES, MOST_DEPTH, MOST_BRACES}

@@ -1,13 +1,11 @@
-ghost use Rattle.std.specs.Prelude.{◌≡◌, ◌<◌, ◌⊎◌, [], length, map, Some, IfOk, IfErr, MatchResult, OnOk, slice_get};
-ghost use Rattle.steptree.specs.declared.step.Step.{Step as NamedStep};
+ghost use Rattle.std.specs.Prelude.{◌≡◌, ◌<◌, [], length, map, IfOk, IfErr, OnOk};
 ghost use Rattle.steptree.specs.CheckFaults.{faults_of};
 ghost use Rattle.steptree.specs.Limits.{IsWithinLimits};
 ghost use Rattle.steptree.specs.Resolved.{Resolves};
 ghost use Rattle.steptree.specs.Sheet.{BodyKeepsTo};
-ghost use Rattle.graph.specs.CheckedSteps.{AreCheckedSteps, IsBodyFault, IsCheckedStep};
+ghost use Rattle.graph.specs.CheckedSteps.{ChecksStep, ChecksBodies};
 ghost use Rattle.graph.specs.Faults.{body_fault, tree_faults};
-ghost use Rattle.graph.specs.Placed.{IsFirst, no_memory};
-ghost use Rattle.graph.specs.Reads.{IsTreeFault};
+ghost use Rattle.graph.specs.Placed.{IsFirst};
 ghost use Rattle.graph.specs.Resolved.{IsResolved};
 ghost use Rattle.graph.specs.Small.{IsSmall};
 
@@ -60,7 +58,7 @@ fn check_step(
     requires no_fault { tree_faults tree.now ≡ [] }
     requires resolved { IsResolved tree.now resolved.now }
     requires within { number < length tree.now.steps.items }
-    ensures { (step : NamedStep) → slice_get tree.now.steps.items number ≡ Some step → MatchResult result (IsCheckedStep tree.now step) (IsBodyFault tree.now step) }
+    ensures { ChecksStep tree.now number result }
 {
     let relations = &resolved.relations;
     let sheet = Sheet {
@@ -89,7 +87,7 @@ pub(crate) fn check_bodies(
     requires small { IsSmall tree.now }
     requires no_fault { tree_faults tree.now ≡ [] }
     requires resolved { IsResolved tree.now resolved.now }
-    ensures { MatchResult result (AreCheckedSteps tree.now tree.now.steps.items) (λ fault. (fault ≡ no_memory) ⊎ IsTreeFault tree.now fault.error fault.position) }
+    ensures { ChecksBodies tree.now result }
 {
     let mut steps = Numbered::new(alloc);
     for number in 0..tree.steps.len() {

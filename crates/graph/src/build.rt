@@ -1,9 +1,9 @@
-ghost use Rattle.std.specs.Prelude.{◌≡◌, ◌≤◌, ◌⊎◌, [], length, IfOk, IfErr};
+ghost use Rattle.std.specs.Prelude.{◌≡◌, ◌≤◌, [], length, IfOk, IfErr};
 ghost use Rattle.graph.specs.declared.limits.TheConstants.{MOST_TEXT};
 ghost use Rattle.graph.specs.Canonical.{canonical};
+ghost use Rattle.graph.specs.CheckedSteps.{IsRefusal};
 ghost use Rattle.graph.specs.Faults.{tree_faults};
-ghost use Rattle.graph.specs.Placed.{no_memory, too_large};
-ghost use Rattle.graph.specs.Reads.{IsTreeFault, IsOfText, IsLong};
+ghost use Rattle.graph.specs.Reads.{IsOfText};
 ghost use Rattle.graph.specs.Small.{IsSmall};
 ghost use Rattle.graph.specs.Tree.{IsGraphOf};
 
@@ -25,7 +25,7 @@ pub(crate) fn graph_of(alloc: Global, tree: &Tree<'_>) -> Result<(Graph, Vec<u8>
     requires text { IsOfText tree.now }
     ensures graph { IfOk result (λ both. (tree_faults tree.now ≡ []) × IsGraphOf tree.now both.0) }
     ensures spelled { IfOk result (λ both. (both.1.items ≡ canonical both.0) × (length (canonical both.0) ≤ MOST_TEXT)) }
-    ensures fault { IfErr result (λ fault. (fault ≡ no_memory) ⊎ IsTreeFault tree.now fault.error fault.position ⊎ ((fault ≡ too_large) × IsLong tree.now)) }
+    ensures fault { IfErr result (IsRefusal tree.now) }
 {
     canonical_reads();
     reads_textual();

@@ -1,10 +1,10 @@
-ghost use Rattle.std.specs.Prelude.{◌≡◌, ◌≤◌, ◌++◌, ℕ, List, [], IfOk, IfSome, OnOk, length, slice_get};
+ghost use Rattle.std.specs.Prelude.{◌≡◌, ◌≤◌, IfOk, IfSome, length, slice_get};
 ghost use Rattle.std.specs.List.{flat_map};
 ghost use Rattle.std.specs.Option.{option_map};
-ghost use Rattle.graph.specs.Canonical.{canonical, declaration_lines, in_angles, in_brackets, step_relations, step_text};
+ghost use Rattle.graph.specs.Canonical.{canonical, declarations_text, step_relations, step_text};
 ghost use Rattle.graph.specs.Seen.{step_seen};
 ghost use Rattle.graph.specs.Graph.{Graph};
-ghost use Rattle.graph.specs.Pieces.{where_there};
+ghost use Rattle.graph.specs.Pieces.{Writes, where_there};
 ghost use Rattle.graph.specs.Reads.{Reads};
 
 mod blocks;
@@ -40,7 +40,7 @@ fn step_at<'a>(graph: &'a Parts<'_>, number: usize) -> Option<(&'a str, &'a Pres
 
 /// The relations of the step with a number.
 fn put_relations_at(text: &mut Vec<u8>, graph: &Parts<'_>, number: usize) -> Result<(), AllocError>
-    ensures { OnOk result (text.new.items ≡ text.old.items ++ where_there (step_relations graph.now) (slice_get graph.now.steps number)) }
+    ensures { Writes result text.old text.new (where_there (step_relations graph.now) (slice_get graph.now.steps number)) }
 {
     match step_at(graph, number) {
         Some((name, step)) => put_step_relations(text, graph, name, step),
@@ -50,7 +50,7 @@ fn put_relations_at(text: &mut Vec<u8>, graph: &Parts<'_>, number: usize) -> Res
 
 /// The text of the step with a number.
 fn put_step_at(text: &mut Vec<u8>, graph: &Parts<'_>, number: usize) -> Result<(), AllocError>
-    ensures { OnOk result (text.new.items ≡ text.old.items ++ where_there (step_text graph.now) (slice_get graph.now.steps number)) }
+    ensures { Writes result text.old text.new (where_there (step_text graph.now) (slice_get graph.now.steps number)) }
 {
     match step_at(graph, number) {
         Some((name, step)) => put_step(text, graph, name, step),
@@ -61,7 +61,7 @@ fn put_step_at(text: &mut Vec<u8>, graph: &Parts<'_>, number: usize) -> Result<(
 /// The declarations of a graph.
 #[tactic(auto, using(std::proofs::Common::append_assoc))]
 fn put_collections(text: &mut Vec<u8>, graph: &Parts<'_>) -> Result<(), AllocError>
-    ensures { OnOk result (text.new.items ≡ text.old.items ++ (declaration_lines in_brackets graph.now.items ++ declaration_lines in_angles graph.now.tags)) }
+    ensures { Writes result text.old text.new (declarations_text graph.now) }
 {
     put_declarations(text, graph.items, "[", "]")?;
     put_declarations(text, graph.tags, "<", ">")
@@ -69,7 +69,7 @@ fn put_collections(text: &mut Vec<u8>, graph: &Parts<'_>) -> Result<(), AllocErr
 
 /// The relations of all steps.
 fn put_all_relations(text: &mut Vec<u8>, graph: &Parts<'_>) -> Result<(), AllocError>
-    ensures { OnOk result (text.new.items ≡ text.old.items ++ flat_map (step_relations graph.now) graph.now.steps) }
+    ensures { Writes result text.old text.new (flat_map (step_relations graph.now) graph.now.steps) }
 {
     for number in 0..graph.steps.len() {
         put_relations_at(text, graph, number)?;
@@ -79,7 +79,7 @@ fn put_all_relations(text: &mut Vec<u8>, graph: &Parts<'_>) -> Result<(), AllocE
 
 /// The texts of all steps.
 fn put_steps(text: &mut Vec<u8>, graph: &Parts<'_>) -> Result<(), AllocError>
-    ensures { OnOk result (text.new.items ≡ text.old.items ++ flat_map (step_text graph.now) graph.now.steps) }
+    ensures { Writes result text.old text.new (flat_map (step_text graph.now) graph.now.steps) }
 {
     for number in 0..graph.steps.len() {
         put_step_at(text, graph, number)?;

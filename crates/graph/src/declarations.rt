@@ -1,6 +1,6 @@
 ghost use Rattle.std.specs.Prelude.{◌≡◌, ◌++◌, ◌∷◌, [], IfOk, OnOk};
 ghost use Rattle.graph.specs.Faults.{declaration_faults};
-ghost use Rattle.graph.specs.Collected.{AreCollected, again, of_name, collections_numbered};
+ghost use Rattle.graph.specs.Collected.{AreCollected, again, of_name, collections_of};
 ghost use Rattle.graph.specs.Placed.{Reports};
 ghost use Rattle.graph.specs.Numbered.{names_numbered};
 ghost use Rattle.graph.specs.Tree.{items_of, tags_of};
@@ -34,7 +34,7 @@ impl<'a> Collections<'a> {
     fn declare(&mut self, name: Name<'a>, components: usize) -> Result<(), PlacedFault>
         ensures faults { Reports (again (names_numbered self.old.numbered) name.entry) result }
         ensures declared { OnOk result (self.new.declared.items ≡ self.old.declared.items ++ of_name name.entry components ∷ []) }
-        ensures numbered { OnOk result (collections_numbered self.new.numbered ≡ collections_numbered self.old.numbered ++ of_name name.entry components ∷ []) }
+        ensures numbered { OnOk result (collections_of self.new ≡ collections_of self.old ++ of_name name.entry components ∷ []) }
     {
         if self.numbered.number(name.text).is_some() {
             return Err(PlacedFault {

@@ -3,9 +3,10 @@ ghost use Rattle.std.specs.Option.{option_map};
 ghost use Rattle.steptree.specs.Names.{place_of, names_in};
 ghost use Rattle.graph.specs.Canonical.{canonical};
 ghost use Rattle.graph.specs.Fits.{AddressIsOf, TagIsOf, InstanceIsOf};
-ghost use Rattle.graph.specs.Graph.{IsGraph, EnvironmentMayPutItem, EnvironmentMayPutTag, EnvironmentMayGet};
+ghost use Rattle.graph.specs.Graph.{IsGraph, body_at, names_at, parameters_at, EnvironmentMayPutItem, EnvironmentMayPutTag, EnvironmentMayGet};
 ghost use Rattle.graph.specs.Prescribed.{prescribed_by, names_of_steps, mark_of};
 ghost use Rattle.graph.specs.Reads.{Reads};
+ghost use Rattle.graph.specs.Seen.{owned_texts};
 
 use crate::numbered::Numbered;
 use crate::parts::Parts;
@@ -68,11 +69,11 @@ impl Drop for Graph {
 impl Model for Graph {
     ghost use Rattle.graph.specs.Graph.{Graph as Seen};
     ghost use Rattle.std.specs.Coded.{codes};
-    ghost use Rattle.steptree.specs.contracts.block.Block as block;
+    ghost use Rattle.steptree.specs.CodesOfBlocks.{numbered_code};
 
     ghost Value = { Seen };
 
-    ghost coded = { Prim.hlevel (codes, block.the_row.coded) };
+    ghost coded = { Prim.hlevel (codes, numbered_code) };
 
     ghost use Rattle.graph.specs.Inside.{graph_seen, IsKept};
 
@@ -316,9 +317,9 @@ impl Graph {
 
     /// The names and the body of a step, if it is in the graph.
     pub fn body(&self, step: StepCollection) -> Option<&Checked>
-        ensures body { option_map (λ checked. checked.now.body) result ≡ option_map (λ step. step.body) (slice_get self.now.steps step.0) }
-        ensures names { option_map (λ checked. map (λ name. name.bytes.items) checked.now.names.items) result ≡ option_map (λ step. step.names) (slice_get self.now.steps step.0) }
-        ensures parameters { option_map (λ checked. checked.now.parameters) result ≡ option_map (λ step. step.parameters) (slice_get self.now.steps step.0) }
+        ensures body { option_map (λ checked. checked.now.body) result ≡ body_at self.now step.0 }
+        ensures names { option_map (λ checked. owned_texts checked.now.names.items) result ≡ names_at self.now step.0 }
+        ensures parameters { option_map (λ checked. checked.now.parameters) result ≡ parameters_at self.now step.0 }
         ensures graph { IsGraph self.now }
     {
         match self.steps.value(step.0 as usize) {

@@ -3,7 +3,7 @@ ghost use Rattle.std.specs.Prelude.{◌≡◌, ◌≤◌, ◌<◌, ◌⊎◌, le
 ghost use Rattle.std.specs.List.{AllByRecursion};
 ghost use Rattle.graph.specs.Canonical.{canonical};
 ghost use Rattle.graph.specs.Placed.{no_memory as refused};
-ghost use Rattle.graph.specs.Reads.{Reads, HasCause, IsCause, IsNotAscii, walked};
+ghost use Rattle.graph.specs.Reads.{Reads, HasCause, IsCause, IsAsciiText, IsNotAscii, walked};
 
 use crate::MOST_TEXT;
 use crate::build::graph_of;
@@ -83,7 +83,7 @@ fn read(alloc: Global, text: &[u8]) -> Result<(Graph, Vec<u8>), PlacedFault>
 // The text, if all its bytes are below 128.
 fn ascii(text: &[u8]) -> Result<&str, PlacedFault>
     requires { length text.now ≤ MOST_TEXT }
-    ensures { MatchResult result (λ plain. (plain.now ≡ text.now) × AllByRecursion (λ byte. byte < 128) text.now) (λ fault. IsCause text.now fault.error fault.position) }
+    ensures { MatchResult result (λ plain. IsAsciiText text.now plain.now) (λ fault. IsCause text.now fault.error fault.position) }
 {
     for position in 0..text.len() {
         if text[position] >= 128 {

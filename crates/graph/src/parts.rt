@@ -21,11 +21,11 @@ pub(crate) struct Parts<'a> {
 impl<'a> Model for Parts<'a> {
     ghost use Rattle.graph.specs.Graph.{Graph as Seen, IsGraph};
     ghost use Rattle.std.specs.Coded.{codes};
-    ghost use Rattle.steptree.specs.contracts.block.Block as block;
+    ghost use Rattle.steptree.specs.CodesOfBlocks.{numbered_code};
 
     ghost Value = { Seen };
 
-    ghost coded = { Prim.hlevel (codes, block.the_row.coded) };
+    ghost coded = { Prim.hlevel (codes, numbered_code) };
 
     ghost use Rattle.graph.specs.Parts.{parts_seen};
 

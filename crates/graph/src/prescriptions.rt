@@ -1,8 +1,7 @@
-ghost use Rattle.std.specs.Prelude.{◌≡◌, ◌<◌, ◌^◌, ◌++◌, ◌∷◌, [], length, map, get_or, IfOk, OnOk, replicate};
+ghost use Rattle.std.specs.Prelude.{◌≡◌, ◌<◌, ◌^◌, [], length, map, IfOk, OnOk, replicate};
 ghost use Rattle.std.specs.List.{AllByRecursion};
-ghost use Rattle.std.proofs.Math.ListN.{set};
 ghost use Rattle.graph.specs.Seen.{step_seen};
-ghost use Rattle.graph.specs.Prescribed.{ArePrescriptions, numbers_of};
+ghost use Rattle.graph.specs.Prescribed.{ArePrescriptions, numbers_of, with_step};
 
 use crate::graph::Prescribed;
 use crate::numbered::Numbered;
@@ -27,7 +26,7 @@ fn add_step(
     step: StepCollection,
 ) -> Result<(), AllocError>
     requires { tag.0 < length lists.old.items }
-    ensures { OnOk result (numbers_of lists.new.items ≡ set (numbers_of lists.old.items) tag.0 (get_or (numbers_of lists.old.items) tag.0 [] ++ step.0 ∷ [])) }
+    ensures { OnOk result (numbers_of lists.new.items ≡ with_step (numbers_of lists.old.items) tag.0 step.0) }
 {
     lists[tag.0 as usize].push(step)?;
     Ok(())

@@ -1,11 +1,7 @@
-ghost use Rattle.std.specs.Prelude.{◌≡◌, ◌<◌, ◌^◌, ◌++◌, List, length, IfOk, IfSome, OnOk, is_none, is_some};
-ghost use Rattle.steptree.specs.Names.{Text};
-ghost use Rattle.syntax.specs.declared.tree.Relation.{Relation as Tied};
-ghost use Rattle.graph.specs.declared.fault.GraphError.TheVariants.{UnknownName, StepMissing, TwoPrescribers};
-ghost use Rattle.graph.specs.Faults.{fault_if, or_else};
+ghost use Rattle.std.specs.Prelude.{◌≡◌, ◌<◌, ◌^◌, length, IfOk, IfSome, OnOk};
 ghost use Rattle.graph.specs.Placed.{Reports};
-ghost use Rattle.graph.specs.Relations.{AreNumbers, AreRelations, IsUnmarked, Relates, RelatesAll};
-ghost use Rattle.graph.specs.Marks.{prescriber_at, with_prescriber};
+ghost use Rattle.graph.specs.Relations.{prescription_faults, IsUnmarked, RelatesOne, RelatesTree};
+ghost use Rattle.graph.specs.Marks.{with_prescriber};
 
 use crate::fault::{GraphError, PlacedFault};
 use crate::numbered::Numbered;
@@ -44,7 +40,7 @@ fn prescribe(
     step_name: &Name<'_>,
 ) -> Result<(), PlacedFault>
     requires { IfSome tag (λ number. number < 2 ^ 16) }
-    ensures faults { Reports (fault_if (is_none tag) UnknownName tag_name.now.place ++ or_else (fault_if (is_none step) StepMissing step_name.now.place) (fault_if (is_some (prescriber_at prescribers.old.items step)) TwoPrescribers step_name.now.place)) result }
+    ensures faults { Reports (prescription_faults prescribers.old.items tag tag_name.now step step_name.now) result }
     ensures prescribed { OnOk result (prescribers.new.items ≡ with_prescriber prescribers.old.items step tag) }
 {
     known(tag, GraphError::UnknownName, tag_name)?;
@@ -69,7 +65,7 @@ impl Relations {
     /// Adds one relation, or returns the first of its faults.
     fn relate(&mut self, numbers: &Numbers<'_>, relation: &Relation<'_>) -> Result<(), PlacedFault>
         requires { length numbers.now.tags.now < 2 ^ 16 }
-        ensures { (items tags steps : List Text) (before : List Tied) → AreNumbers items tags steps numbers.now → AreRelations items tags steps before self.old → Relates items tags steps before relation.now self.new result }
+        ensures { RelatesOne numbers.now relation.now self.old self.new result }
     {
         match relation {
             Relation::Prescribes { tag, step } => prescribe(
@@ -148,7 +144,7 @@ pub(crate) fn relate_all(
     relations: &[Relation<'_>],
 ) -> Result<Relations, PlacedFault>
     requires { length numbers.now.tags.now < 2 ^ 16 }
-    ensures { (items tags names : List Text) → AreNumbers items tags names numbers.now → length names ≡ steps → RelatesAll items tags names relations.now result }
+    ensures { RelatesTree numbers.now steps relations.now result }
 {
     let mut them = none(alloc, numbers.items.len(), numbers.tags.len(), steps)?;
     for relation in relations {

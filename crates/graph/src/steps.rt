@@ -1,14 +1,9 @@
-ghost use Rattle.std.specs.Prelude.{◌≡◌, ◌++◌, ◌<◌, [], List, length, map, IfOk, OnOk, None, Some};
-ghost use Rattle.std.specs.Option.{option_map};
-ghost use Rattle.steptree.specs.Names.{Text, place_of, names_in};
+ghost use Rattle.std.specs.Prelude.{◌≡◌, ◌++◌, [], length, IfOk, OnOk};
 ghost use Rattle.steptree.specs.Statements.{texts};
-ghost use Rattle.graph.specs.declared.fault.GraphError.TheVariants.{StepTwice};
-ghost use Rattle.graph.specs.Faults.{fault_if, or_else, repeated, step_faults};
-ghost use Rattle.graph.specs.Numbered.{names_numbered, found};
+ghost use Rattle.graph.specs.Faults.{fault_if, repeated};
+ghost use Rattle.graph.specs.Numbered.{names_numbered};
 ghost use Rattle.graph.specs.Placed.{Reports};
-ghost use Rattle.graph.specs.Steps.{ArePlaces, components_by, components_faults};
-ghost use Rattle.graph.specs.Relations.{AreRelations};
-ghost use Rattle.syntax.specs.declared.tree.Relation.{Relation as Tied};
+ghost use Rattle.graph.specs.Steps.{ArePlaces, components_by, prescribed_faults, ReportsSteps};
 ghost use Rattle.graph.specs.Tree.{step_names};
 
 use crate::fault::{GraphError, PlacedFault};
@@ -71,7 +66,7 @@ fn names_differ(alloc: Global, step: &Step<'_>) -> Result<(), PlacedFault>
 
 /// Whether a step has one text only, is prescribed, and has as many parameters as its tags have components.
 fn is_prescribed(step: &Step<'_>, twice: bool, components: Option<usize>) -> Result<(), PlacedFault>
-    ensures { Reports (or_else (fault_if twice StepTwice step.now.name.place) (components_faults components step.now)) result }
+    ensures { Reports (prescribed_faults twice components step.now) result }
 {
     refuse_if(twice, GraphError::StepTwice, &step.name)?;
     match components {
@@ -107,7 +102,7 @@ pub(crate) fn check_steps(
     steps: &[Step<'_>],
 ) -> Result<(), PlacedFault>
     requires { length relations.now.prescribers.items ≡ length steps.now }
-    ensures { (items : List Text) (all : List Tied) → AreRelations items (names_in tags.now) (step_names steps.now) all relations.now → ArePlaces numbered.now (step_names steps.now) → Reports (step_faults tags.now all [] steps.now) result }
+    ensures { ReportsSteps tags.now relations.now numbered.now steps.now result }
 {
     for (number, step) in steps.iter().enumerate() {
         let twice = numbered.get(step.name.text).copied() != Some(number);

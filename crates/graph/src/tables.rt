@@ -1,7 +1,8 @@
-ghost use Rattle.std.specs.Prelude.{◌≡◌, ◌++◌, OnOk, IfOk, is_none, false, replicate};
-ghost use Rattle.graph.specs.declared.fault.GraphError.TheVariants.{Redeclared, UnknownName, StepMissing};
+ghost use Rattle.std.specs.Prelude.{◌≡◌, OnOk, IfOk, is_none, false, replicate};
+ghost use Rattle.graph.specs.declared.fault.GraphError.TheVariants.{Redeclared};
 ghost use Rattle.graph.specs.Faults.{fault_if};
 ghost use Rattle.graph.specs.Placed.{Reports};
+ghost use Rattle.graph.specs.Relations.{read_faults, put_faults, environment_faults};
 ghost use Rattle.graph.specs.Marks.{mark_at, mark_between, with_mark, with_mark_between, bits};
 
 use crate::fault::{GraphError, PlacedFault};
@@ -71,7 +72,7 @@ pub(crate) fn read(
     step: Option<usize>,
     step_name: &Name<'_>,
 ) -> Result<(), PlacedFault>
-    ensures faults { Reports (fault_if (mark_between (bits rows.old) step item) Redeclared position ++ fault_if (is_none item) UnknownName item_name.now.place ++ fault_if (is_none step) StepMissing step_name.now.place) result }
+    ensures faults { Reports (read_faults (bits rows.old) position item item_name.now step step_name.now) result }
     ensures marked { OnOk result (bits rows.new ≡ with_mark_between (bits rows.old) step item) }
 {
     mark_in(rows, step, item, position)?;
@@ -88,7 +89,7 @@ pub(crate) fn put(
     other: Option<usize>,
     other_name: &Name<'_>,
 ) -> Result<(), PlacedFault>
-    ensures faults { Reports (fault_if (mark_between (bits rows.old) step other) Redeclared position ++ fault_if (is_none step) StepMissing step_name.now.place ++ fault_if (is_none other) UnknownName other_name.now.place) result }
+    ensures faults { Reports (put_faults (bits rows.old) position step step_name.now other other_name.now) result }
     ensures marked { OnOk result (bits rows.new ≡ with_mark_between (bits rows.old) step other) }
 {
     mark_in(rows, step, other, position)?;
@@ -103,7 +104,7 @@ pub(crate) fn environment(
     place: Option<usize>,
     name: &Name<'_>,
 ) -> Result<(), PlacedFault>
-    ensures faults { Reports (fault_if (mark_at row.old.items place) Redeclared position ++ fault_if (is_none place) UnknownName name.now.place) result }
+    ensures faults { Reports (environment_faults row.old.items position place name.now) result }
     ensures marked { OnOk result (row.new.items ≡ with_mark row.old.items place) }
 {
     mark(row, place, position)?;

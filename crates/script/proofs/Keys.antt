@@ -1,7 +1,7 @@
 -- The components of a key that were read, and those that are still to come; and the form after them.
 use Rattle.std.proofs.Common.{◌≡◌, ◌≢◌, ℕ, ℤ, Bool, true, false, nat_eq, if◌then◌else◌, List, [], ◌∷◌, ◌++◌, Option, Some, None, codes, refl, sym, ap, subst, ◌∙◌, append_assoc}
 use Rattle.steptree.specs.Names.{is_text}
-use Rattle.script.specs.Forms.{Form, put, tag, get}
+use Rattle.script.specs.Forms.{Form, HasName, IsName, put, tag, get}
 use Rattle.script.specs.Requests.{KeyAndMore, Named, with_component, with_components, key_of, sign_of, number_of, ended, put_value, put_behind, tag_named, get_named, form_by}
 use Rattle.script.specs.Tokens.{Lexeme, word, number, sign, unknown}
 use Rattle.script.proofs.FormTokens.{if_only, same_text, some_same}
@@ -50,11 +50,18 @@ to_come mark close key whole tokens same more value after e none is begins read 
 
 -- ---- forms
 
-pub tag_read : (found : Option Named) (name : List ℕ) (key : List ℤ) (after : List Lexeme) → found ≡ Some (name, key, after) → after ≡ [] → tag_named found ≡ Some (tag name key)
-tag_read found name key after is ends = ap tag_named is ∙ ap (ended (tag name key)) ends
+-- a form with no token behind it
+at_end : (form other : Form) (more : List Lexeme) → ended form more ≡ Some other → (more ≡ []) × (form ≡ other)
+at_end form other [] is = (refl, some_same {A = Form} form other is)
+at_end form other (first ∷ more) is = absurd (cc)
 
-pub get_read : (found : Option Named) (name : List ℕ) (key : List ℤ) (after : List Lexeme) → found ≡ Some (name, key, after) → after ≡ [] → get_named found ≡ Some (get name key)
-get_read found name key after is ends = ap get_named is ∙ ap (ended (get name key)) ends
+pub no_tag : (found : Option Named) → ((named : Named) → found ≡ Some named → named.2 ≡ [] → IsName named.0 → ⊥) → (form : Form) → tag_named found ≡ Some form → HasName form → ⊥
+no_tag None none form is has = absurd (cc)
+no_tag (Some named) none form is has = let end = at_end (tag named.0 named.1) form named.2 is in none named refl end.0 (subst HasName (sym end.1) has)
+
+pub no_get : (found : Option Named) → ((named : Named) → found ≡ Some named → named.2 ≡ [] → IsName named.0 → ⊥) → (form : Form) → get_named found ≡ Some form → HasName form → ⊥
+no_get None none form is has = absurd (cc)
+no_get (Some named) none form is has = let end = at_end (get named.0 named.1) form named.2 is in none named refl end.0 (subst HasName (sym end.1) has)
 
 pub put_read : (name : List ℕ) (key : List ℤ) (value : ℤ) (tokens more after : List Lexeme) → sign_of 61 tokens ≡ Some more → number_of more ≡ Some (value, after) → after ≡ []
     → put_behind name key (sign_of 61 tokens) ≡ Some (put name key value)

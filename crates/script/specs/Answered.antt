@@ -1,5 +1,5 @@
 -- What the program returns for a name with a key, for a line, and for the lines up to a place.
-use Rattle.std.specs.Prelude.{◌≡◌, ◌⊎◌, ⊤, ℕ, ℤ, List, [], ◌∷◌, ◌++◌}
+use Rattle.std.specs.Prelude.{◌≡◌, ◌⊎◌, ⊤, ℕ, ℤ, List, [], ◌∷◌, ◌++◌, Option, MatchOption}
 use Rattle.steptree.specs.Nameable.{Collection}
 use Rattle.graph.specs.Graph.{Graph}
 use Rattle.script.specs.Faults.{AreFitting, IsUnknown, HasOtherArity, IsFirstOf, IsFault, Asks}
@@ -17,6 +17,10 @@ IsKeyFault collections name key fault = IsFirstOf (AreFitting key) (IsUnknown co
 abbrev pub IsLineError : Graph → List ℕ → ℕ → ScriptError → Type 0
 IsLineError g line number (At other fault) = (other ≡ number) × IsFault g line fault
 IsLineError g line number NoMemory = ⊤
+
+-- the line has no token, or asks for this command
+abbrev pub IsAsked : Graph → List ℕ → Option Command → Type 0
+IsAsked g line asked = MatchOption asked (AreSpaces line) (λ command. Asks g line command)
 
 -- a line was read: it has no token, or asks for the command that was added
 abbrev pub IsAdded : Graph → List ℕ → List Command → List Command → Type 0

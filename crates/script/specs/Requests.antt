@@ -1,5 +1,5 @@
 -- What the tokens of a line ask for: their form, and what the program keeps of it. Signs are given by the codes that `Forms` lists.
-use Rattle.std.specs.Prelude.{◌≡◌, ⊤, ◌<◌, ℕ, ℤ, ◌==◌, List, [], ◌∷◌, ◌++◌, length, Option, Some, None, FitsSigned, if◌then◌else◌, codes}
+use Rattle.std.specs.Prelude.{◌≡◌, ⊤, ◌<◌, ℕ, ℤ, Bool, MatchBool, MatchOption, ◌==◌, List, [], ◌∷◌, ◌++◌, length, Option, Some, None, FitsSigned, if◌then◌else◌, codes}
 use Rattle.std.specs.Int.{w64}
 use Rattle.std.specs.List.{AllByRecursion}
 use Rattle.steptree.specs.Names.{is_text}
@@ -143,6 +143,17 @@ abbrev pub HasValue : Option ℤ → ℤ → Type 0
 HasValue None value = FitsSigned w64 value → ⊥
 HasValue (Some found) value = (found ≡ value) × FitsSigned w64 value
 
+-- whether this sign is the first token, and is taken; and a number, if it is
+abbrev pub TakesSign : ℕ → Bool → List Lexeme → List Lexeme → Type 0
+TakesSign mark taken before after = MatchBool taken (sign_of mark before ≡ Some after) ((sign_of mark before ≡ None) × (after ≡ before))
+
+abbrev pub TakesNumber : Option (Option ℤ) → List Lexeme → List Lexeme → Type 0
+TakesNumber taken before after = MatchOption taken (number_of before ≡ None) (λ read. (value : ℤ) × (number_of before ≡ Some (value, after)) × HasValue read value)
+
+-- what was read stands for one component more than before
+abbrev pub HasReadMore : WrittenKey → Option ℤ → WrittenKey → Type 0
+HasReadMore old component new = (components : List ℤ) → (value : ℤ) → HasRead old components → HasValue component value → HasRead new (components ++ value ∷ [])
+
 -- the request is this form
 abbrev pub IsRequest : Request → Form → Type 0
 IsRequest (request.Put name key value) (put n k v) = (name.now ≡ n) × HasRead key k × HasValue value v
@@ -165,3 +176,12 @@ AnswersKey (Some read) found after = (key : List ℤ) × (found ≡ Some (key, a
 abbrev pub AnswersNamed : Option NamedKey → Option Named → List Lexeme → Type 0
 AnswersNamed None found after = (named : Named) → found ≡ Some named → IsName named.0 → ⊥
 AnswersNamed (Some read) found after = (key : List ℤ) × (found ≡ Some (read.name.now, key, after)) × IsName read.name.now × HasRead read.key key
+
+-- the same, if no token is left after them
+abbrev pub AnswersLast : Option NamedKey → Option Named → Type 0
+AnswersLast None found = (named : Named) → found ≡ Some named → named.2 ≡ [] → IsName named.0 → ⊥
+AnswersLast (Some read) found = (key : List ℤ) × (found ≡ Some (read.name.now, key, [])) × IsName read.name.now × HasRead read.key key
+
+-- the request for a put at this name and key, whose value the tokens have
+abbrev pub AnswersPut : NamedKey → List Lexeme → Option Request → Type 0
+AnswersPut named tokens result = (key : List ℤ) → HasRead named.key key → Answers result (put_behind named.name.now key (sign_of 61 tokens))

@@ -21,6 +21,10 @@ AreSpaces bytes = AllByRecursion (λ byte. is_space byte ≡ true) bytes
 abbrev pub is_sign : ℕ → Bool
 is_sign byte = (((byte == 91) || (byte == 93)) || ((byte == 60) || (byte == 62))) || (((byte == 58) || (byte == 44)) || (byte == 61))
 
+-- no letter, no digit and no sign
+abbrev pub IsOther : ℕ → Type 0
+IsOther byte = (is_letter byte ≡ false) × (is_digit byte ≡ false) × (is_sign byte ≡ false)
+
 -- Before the rest there is a decimal integer with this value: a hyphen (45) or none, then at least one digit. The rest begins with no digit.
 abbrev pub IsInteger : List ℕ → ℤ → List ℕ → Type 0
 IsInteger bytes value rest = (digits : List ℕ) × (size : ℕ) × IsNumeral digits size rest

@@ -9,14 +9,14 @@ pub(crate) struct Cursor<'t, 'a> {
 }
 
 impl<'t, 'a> Cursor<'t, 'a> {
-    ghost use Rattle.std.specs.Prelude.{◌≡◌, ◌<◌, ◌≤◌, [], ℤ, length, IfSome, MatchBool, MatchOption, None, Some, true};
+    ghost use Rattle.std.specs.Prelude.{◌≡◌, ◌<◌, ◌≤◌, [], length, MatchBool, MatchOption, None, Some, true};
     ghost use Rattle.script.specs.Lexemes.{IsSoundCursor, left};
-    ghost use Rattle.script.specs.Requests.{HasValue, number_of, sign_of, word_of};
+    ghost use Rattle.script.specs.Requests.{TakesNumber, TakesSign, word_of};
 
     /// Takes this sign, if it is the next token.
     pub(crate) fn takes(&mut self, sign: u8) -> bool
         requires { IsSoundCursor self.old }
-        ensures taken { MatchBool result (sign_of sign (left self.old) ≡ Some (left self.new)) ((sign_of sign (left self.old) ≡ None) × (left self.new ≡ left self.old)) }
+        ensures taken { TakesSign sign result (left self.old) (left self.new) }
         ensures sound { IsSoundCursor self.new }
         ensures fewer { result ≡ true → length (left self.new) < length (left self.old) }
     {
@@ -50,7 +50,7 @@ impl<'t, 'a> Cursor<'t, 'a> {
     /// Takes a number, if it is the next token; the inner `None` means that the number does not fit in 64 bits.
     pub(crate) fn number(&mut self) -> Option<Option<i64>>
         requires { IsSoundCursor self.old }
-        ensures taken { MatchOption result (number_of (left self.old) ≡ None) (λ read. (value : ℤ) × (number_of (left self.old) ≡ Some (value, left self.new)) × HasValue read value) }
+        ensures taken { TakesNumber result (left self.old) (left self.new) }
         ensures sound { IsSoundCursor self.new }
         ensures fewer { length (left self.new) ≤ length (left self.old) }
     {

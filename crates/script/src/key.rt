@@ -1,9 +1,8 @@
 //! Keys as they are written.
-ghost use Rattle.std.specs.Prelude.{◌≡◌, ◌≤◌, ◌∷◌, ◌++◌, [], ℤ, List, length, IfSome, Some};
+ghost use Rattle.std.specs.Prelude.{Some};
 ghost use Rattle.std.specs.Str.Parse.{IsNumeral, signed_digits_value, without_leading_sign};
-ghost use Rattle.terms.specs.declared.key.TheConstants.{MAX_COMPONENTS};
 ghost use Rattle.script.specs.Lexemes.{IsSoundCursor, left};
-ghost use Rattle.script.specs.Requests.{AnswersKey, HasRead, HasValue, key_of};
+ghost use Rattle.script.specs.Requests.{AnswersKey, HasReadMore, HasValue, key_of};
 
 use crate::cursor::Cursor;
 use terms::{Key, MAX_COMPONENTS};
@@ -22,7 +21,7 @@ pub(crate) enum WrittenKey {
 impl WrittenKey {
     // The same with one more component.
     fn with(self, component: Option<i64>) -> WrittenKey
-        ensures { (components : List ℤ) → (value : ℤ) → HasRead self components → HasValue component value → HasRead result (components ++ value ∷ []) }
+        ensures { HasReadMore self component result }
     {
         match component {
             None => WrittenKey::OutOfRange,
@@ -37,7 +36,7 @@ impl WrittenKey {
 
 // The key with one more component.
 fn longer(key: Key, component: i64) -> WrittenKey
-    ensures { (components : List ℤ) → (value : ℤ) → HasRead (WrittenKey.Whole key) components → HasValue (Some component) value → HasRead result (components ++ value ∷ []) }
+    ensures { HasReadMore (WrittenKey.Whole key) (Some component) result }
 {
     let before = key.components();
     let count = before.len();

@@ -2,8 +2,7 @@
 ghost use Rattle.std.specs.Prelude.{◌≡◌, ◌<◌, ◌≤◌, length, drop, get_or, false, OnOk};
 ghost use Rattle.std.specs.Str.{IsAscii};
 ghost use Rattle.script.specs.Lexemes.{AreSound, IsSound, lexeme_of, lexemes_of};
-ghost use Rattle.script.specs.Tokens.{AreTokens, Stands, is_sign, is_space};
-ghost use Rattle.syntax.specs.Tokens.{is_digit, is_letter};
+ghost use Rattle.script.specs.Tokens.{AreTokens, IsOther, Stands, is_space};
 
 use crate::characters::{is_sign, leading_spaces};
 use crate::token::Token;
@@ -59,7 +58,7 @@ fn negative_or_unknown<'a>(text: &'a str) -> (Token<'a>, usize)
     requires ascii { IsAscii text.now }
     requires some { 0 < length text.now }
     requires not_space { is_space (get_or text.now 0 0) ≡ false }
-    requires other { (is_letter (get_or text.now 0 0) ≡ false) × (is_digit (get_or text.now 0 0) ≡ false) × (is_sign (get_or text.now 0 0) ≡ false) }
+    requires other { IsOther (get_or text.now 0 0) }
     ensures length { (0 < result.1) × (result.1 ≤ length text.now) }
     ensures stands { Stands (lexeme_of result.0) text.now (drop result.1 text.now) }
     ensures sound { IsSound result.0 }

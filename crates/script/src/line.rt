@@ -1,10 +1,8 @@
 //! A line of a script.
 ghost use Rattle.std.specs.Prelude.{◌≡◌, ◌∷◌, ◌++◌, IfErr, IfOk, MatchOption, OnOk};
 ghost use Rattle.std.specs.Str.{IsAscii};
-ghost use Rattle.script.specs.Answered.{IsAdded, IsLineError};
-ghost use Rattle.script.specs.Faults.{Asks};
+ghost use Rattle.script.specs.Answered.{IsAdded, IsAsked, IsLineError};
 ghost use Rattle.script.specs.Script.{HasNoFeed};
-ghost use Rattle.script.specs.Tokens.{AreSpaces};
 
 use crate::lexer::tokenize;
 use crate::names::command_of;
@@ -31,7 +29,7 @@ fn asked<'a>(
     number: usize,
     line: &'a [u8],
 ) -> Result<Option<Command>, ScriptError>
-    ensures asked { IfOk result (λ asked. MatchOption asked (AreSpaces line.now) (λ command. Asks graph.now line.now command)) }
+    ensures asked { IfOk result (IsAsked graph.now line.now) }
     ensures refused { IfErr result (IsLineError graph.now line.now number) }
 {
     let Some(text) = ascii(line) else {

@@ -1,8 +1,7 @@
 //! What a line asks for, by the names and numbers that are written there.
-ghost use Rattle.std.specs.Prelude.{ℤ, List};
 ghost use Rattle.script.specs.Forms.{IsName, run};
 ghost use Rattle.script.specs.Lexemes.{AreSound, IsSoundCursor, left, lexemes_of};
-ghost use Rattle.script.specs.Requests.{Answers, AnswersNamed, HasRead, ended, form_by, form_of, get_of, named_of, put_behind, put_of, sign_of, tag_of};
+ghost use Rattle.script.specs.Requests.{Answers, AnswersLast, AnswersNamed, AnswersPut, ended, form_by, form_of, get_of, named_of, put_of, tag_of};
 
 use crate::cursor::Cursor;
 use crate::key::{WrittenKey, written_key};
@@ -69,7 +68,7 @@ fn put<'a>(cursor: &mut Cursor<'_, 'a>) -> Option<Request<'a>>
 fn put_named<'a>(named: NamedKey<'a>, cursor: &mut Cursor<'_, 'a>) -> Option<Request<'a>>
     requires sound { IsSoundCursor cursor.old }
     requires kept { IsName named.name.now }
-    ensures { (key : List ℤ) → HasRead named.entry.key key → Answers result (put_behind named.entry.name.now key (sign_of 61 (left cursor.old))) }
+    ensures { AnswersPut named.entry (left cursor.old) result }
 {
     if !cursor.takes(b'=') {
         return None;
@@ -90,14 +89,8 @@ fn tag<'a>(cursor: &mut Cursor<'_, 'a>) -> Option<Request<'a>>
     requires { IsSoundCursor cursor.old }
     ensures { Answers result (tag_of (left cursor.old)) }
 {
-    match named_key(cursor, b'<', b'>') {
-        Some(named) => {
-            if cursor.is_at_end() {
-                Some(Request::Tag(named.name, named.key))
-            } else {
-                None
-            }
-        }
+    match last_key(cursor, b'<', b'>') {
+        Some(named) => Some(Request::Tag(named.name, named.key)),
         None => None,
     }
 }
@@ -106,10 +99,21 @@ fn get<'a>(cursor: &mut Cursor<'_, 'a>) -> Option<Request<'a>>
     requires { IsSoundCursor cursor.old }
     ensures { Answers result (get_of (left cursor.old)) }
 {
-    match named_key(cursor, b'[', b']') {
+    match last_key(cursor, b'[', b']') {
+        Some(named) => Some(Request::Get(named.name, named.key)),
+        None => None,
+    }
+}
+
+// A name and a key, between these brackets, after which no token is left.
+fn last_key<'a>(cursor: &mut Cursor<'_, 'a>, opening: u8, closing: u8) -> Option<NamedKey<'a>>
+    requires { IsSoundCursor cursor.old }
+    ensures { AnswersLast result (named_of opening closing (left cursor.old)) }
+{
+    match named_key(cursor, opening, closing) {
         Some(named) => {
             if cursor.is_at_end() {
-                Some(Request::Get(named.name, named.key))
+                Some(named)
             } else {
                 None
             }

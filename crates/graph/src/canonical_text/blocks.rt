@@ -1,6 +1,6 @@
-ghost use Rattle.std.specs.Prelude.{◌≡◌, ◌<◌, ◌++◌, OnOk, codes, length, suc};
-ghost use Rattle.graph.specs.Canonical.{in_rounds, line, variable_text, expression_text, item_text, tag_text, block_text};
-ghost use Rattle.graph.specs.Pieces.{behind, names_of_words};
+ghost use Rattle.std.specs.Prelude.{◌≡◌, ◌<◌, length, suc};
+ghost use Rattle.graph.specs.Canonical.{line, assignment_line, condition_line, range_line, get_line, put_item_line, put_tag_line, choice_text, loop_text, block_text};
+ghost use Rattle.graph.specs.Pieces.{Writes, WritesFirst, in_words, bounds_text};
 
 use super::expressions::{put_expression, put_item, put_tag};
 use super::pieces::{put, put_indentation};
@@ -18,7 +18,7 @@ fn put_assignment(
     variable: Slot,
     value: &Expression,
 ) -> Result<(), AllocError>
-    ensures { OnOk result (text.new.items ≡ text.old.items ++ line level (variable_text words.now.graph.now (names_of_words words.now) variable ++ codes " = " ++ expression_text words.now.graph.now (names_of_words words.now) value.now ++ codes ";")) }
+    ensures { Writes result text.old text.new (in_words words.now assignment_line level variable value.now) }
 {
     put_indentation(text, level)?;
     words.put_variable(text, variable)?;
@@ -35,7 +35,7 @@ fn put_condition(
     level: usize,
     condition: &Expression,
 ) -> Result<(), AllocError>
-    ensures { OnOk result (text.new.items ≡ text.old.items ++ line level (codes "if " ++ in_rounds (expression_text words.now.graph.now (names_of_words words.now) condition.now) ++ codes " {")) }
+    ensures { Writes result text.old text.new (in_words words.now condition_line level condition.now) }
 {
     put_indentation(text, level)?;
     put(text, &["if ("])?;
@@ -51,7 +51,7 @@ fn put_bounds(
     from: &Expression,
     to: &Expression,
 ) -> Result<(), AllocError>
-    ensures { OnOk result (text.new.items ≡ text.old.items ++ (expression_text words.now.graph.now (names_of_words words.now) from.now ++ codes " .. " ++ expression_text words.now.graph.now (names_of_words words.now) to.now)) }
+    ensures { Writes result text.old text.new (in_words words.now bounds_text from.now to.now) }
 {
     put_expression(text, words, from)?;
     put(text, &[" .. "])?;
@@ -68,7 +68,7 @@ fn put_range(
     from: &Expression,
     to: &Expression,
 ) -> Result<(), AllocError>
-    ensures { OnOk result (text.new.items ≡ text.old.items ++ line level (codes "for " ++ variable_text words.now.graph.now (names_of_words words.now) variable ++ codes " in " ++ expression_text words.now.graph.now (names_of_words words.now) from.now ++ codes " .. " ++ expression_text words.now.graph.now (names_of_words words.now) to.now ++ codes " {")) }
+    ensures { Writes result text.old text.new (in_words words.now range_line level variable from.now to.now) }
 {
     put_indentation(text, level)?;
     put(text, &["for "])?;
@@ -81,7 +81,7 @@ fn put_range(
 /// A line with these words, indented by `level` levels.
 #[tactic(auto, using(crate::proofs::Written::is_line, std::proofs::Common::append_assoc))]
 pub(crate) fn put_line(text: &mut Vec<u8>, level: usize, words: &str) -> Result<(), AllocError>
-    ensures { OnOk result (text.new.items ≡ text.old.items ++ line level words.now) }
+    ensures { Writes result text.old text.new (line level words.now) }
 {
     put_indentation(text, level)?;
     put(text, &[words, "\n"])
@@ -97,7 +97,7 @@ fn put_get(
     item: ItemCollection,
     components: &Components,
 ) -> Result<(), AllocError>
-    ensures { OnOk result (text.new.items ≡ text.old.items ++ line level (codes "get " ++ variable_text words.now.graph.now (names_of_words words.now) variable ++ codes " = " ++ item_text words.now.graph.now (names_of_words words.now) item.0 components.now ++ codes ";")) }
+    ensures { Writes result text.old text.new (in_words words.now get_line level variable item.0 components.now) }
 {
     put_indentation(text, level)?;
     put(text, &["get "])?;
@@ -117,7 +117,7 @@ fn put_item_put(
     components: &Components,
     value: &Expression,
 ) -> Result<(), AllocError>
-    ensures { OnOk result (text.new.items ≡ text.old.items ++ line level (codes "put " ++ item_text words.now.graph.now (names_of_words words.now) item.0 components.now ++ codes " = " ++ expression_text words.now.graph.now (names_of_words words.now) value.now ++ codes ";")) }
+    ensures { Writes result text.old text.new (in_words words.now put_item_line level item.0 components.now value.now) }
 {
     put_indentation(text, level)?;
     put(text, &["put "])?;
@@ -136,7 +136,7 @@ fn put_tag_put(
     tag: TagCollection,
     components: &Components,
 ) -> Result<(), AllocError>
-    ensures { OnOk result (text.new.items ≡ text.old.items ++ line level (codes "put " ++ tag_text words.now.graph.now (names_of_words words.now) tag.0 components.now ++ codes ";")) }
+    ensures { Writes result text.old text.new (in_words words.now put_tag_line level tag.0 components.now) }
 {
     put_indentation(text, level)?;
     put(text, &["put "])?;
@@ -163,7 +163,7 @@ fn put_choice(
     first: &Block,
     second: &Block,
 ) -> Result<(), AllocError>
-    ensures { OnOk result (text.new.items ≡ text.old.items ++ (line level (codes "if " ++ in_rounds (expression_text words.now.graph.now (names_of_words words.now) condition.now) ++ codes " {") ++ block_text words.now.graph.now (names_of_words words.now) (suc level) first.now ++ line level (codes "} else {") ++ block_text words.now.graph.now (names_of_words words.now) (suc level) second.now ++ line level (codes "}"))) }
+    ensures { Writes result text.old text.new (in_words words.now choice_text level condition.now first.now second.now) }
 {
     put_condition(text, words, level, condition)?;
     let next = deeper(text, level);
@@ -185,7 +185,7 @@ fn put_loop(
     to: &Expression,
     block: &Block,
 ) -> Result<(), AllocError>
-    ensures { OnOk result (text.new.items ≡ text.old.items ++ (line level (codes "for " ++ variable_text words.now.graph.now (names_of_words words.now) variable ++ codes " in " ++ expression_text words.now.graph.now (names_of_words words.now) from.now ++ codes " .. " ++ expression_text words.now.graph.now (names_of_words words.now) to.now ++ codes " {") ++ block_text words.now.graph.now (names_of_words words.now) (suc level) block.now ++ line level (codes "}"))) }
+    ensures { Writes result text.old text.new (in_words words.now loop_text level variable from.now to.now block.now) }
 {
     put_range(text, words, level, variable, from, to)?;
     let next = deeper(text, level);
@@ -202,7 +202,7 @@ fn put_first(
     level: usize,
     block: &Block,
 ) -> Result<(), AllocError>
-    ensures { OnOk result (text.new.items ++ block_text words.now.graph.now (names_of_words words.now) level (behind block.now) ≡ text.old.items ++ block_text words.now.graph.now (names_of_words words.now) level block.now) }
+    ensures { WritesFirst result text.old text.new words.now level block.now }
 {
     match &block.first {
         Statement::End => Ok(()),
@@ -254,19 +254,12 @@ pub(crate) fn put_block(
     level: usize,
     block: &Block,
 ) -> Result<(), AllocError>
-    ensures { OnOk result (text.new.items ≡ text.old.items ++ block_text words.now.graph.now (names_of_words words.now) level block.now) }
+    ensures { Writes result text.old text.new (in_words words.now block_text level block.now) }
 {
     let mut left = block;
-    loop {
+    while let Some(rest) = left.rest() {
         put_first(text, words, level, left)?;
-        match &left.first {
-            Statement::End => return Ok(()),
-            Statement::Assign { rest, .. } => left = rest,
-            Statement::If { rest, .. } => left = rest,
-            Statement::For { rest, .. } => left = rest,
-            Statement::Get { rest, .. } => left = rest,
-            Statement::PutItem { rest, .. } => left = rest,
-            Statement::PutTag { rest, .. } => left = rest,
-        }
+        left = rest;
     }
+    Ok(())
 }

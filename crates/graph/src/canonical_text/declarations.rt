@@ -1,7 +1,7 @@
-ghost use Rattle.std.specs.Prelude.{◌≡◌, ◌++◌, OnOk, codes, slice_get};
-ghost use Rattle.graph.specs.Canonical.{component_names, declaration_lines, line, with_colon};
+ghost use Rattle.std.specs.Prelude.{slice_get};
+ghost use Rattle.graph.specs.Canonical.{between, component_names, declaration_line, declaration_lines, with_colon};
 ghost use Rattle.graph.specs.Collected.{collections_numbered};
-ghost use Rattle.graph.specs.Pieces.{after_colon, declaration_at};
+ghost use Rattle.graph.specs.Pieces.{Writes, after_colon, declaration_at};
 
 use super::pieces::put;
 use crate::numbered::Numbered;
@@ -9,7 +9,7 @@ use std::alloc::AllocError;
 
 /// The names of `components` components, after a colon if there are any.
 fn put_component_names(text: &mut Vec<u8>, components: usize) -> Result<(), AllocError>
-    ensures { OnOk result (text.new.items ≡ text.old.items ++ after_colon (component_names components)) }
+    ensures { Writes result text.old text.new (after_colon (component_names components)) }
 {
     let names = [": i", ", j", ", k", ", l", ", m", ", n", ", o", ", p"];
     let count = components.min(names.len());
@@ -19,7 +19,7 @@ fn put_component_names(text: &mut Vec<u8>, components: usize) -> Result<(), Allo
 /// A name, and after a colon the names of its components.
 #[tactic(auto, using(crate::proofs::Written::colon_behind, std::proofs::Common::append_assoc))]
 fn put_name(text: &mut Vec<u8>, name: &str, components: usize) -> Result<(), AllocError>
-    ensures { OnOk result (text.new.items ≡ text.old.items ++ with_colon name.now (component_names components)) }
+    ensures { Writes result text.old text.new (with_colon name.now (component_names components)) }
 {
     put(text, &[name])?;
     put_component_names(text, components)
@@ -34,7 +34,7 @@ fn put_collection(
     opening: &str,
     closing: &str,
 ) -> Result<(), AllocError>
-    ensures { OnOk result (text.new.items ≡ text.old.items ++ line 0 (opening.now ++ with_colon name.now (component_names components) ++ closing.now ++ codes ";")) }
+    ensures { Writes result text.old text.new (declaration_line (between opening.now closing.now) name.now components) }
 {
     put(text, &[opening])?;
     put_name(text, name, components)?;
@@ -49,7 +49,7 @@ fn put_declaration(
     opening: &str,
     closing: &str,
 ) -> Result<(), AllocError>
-    ensures { OnOk result (text.new.items ≡ text.old.items ++ declaration_at (λ name. opening.now ++ name ++ closing.now) (slice_get collections.now number)) }
+    ensures { Writes result text.old text.new (declaration_at (between opening.now closing.now) (slice_get collections.now number)) }
 {
     match collections.name(number) {
         Some(name) => match collections.value(number) {
@@ -67,7 +67,7 @@ pub(crate) fn put_declarations(
     opening: &str,
     closing: &str,
 ) -> Result<(), AllocError>
-    ensures { OnOk result (text.new.items ≡ text.old.items ++ declaration_lines (λ name. opening.now ++ name ++ closing.now) (collections_numbered collections.now)) }
+    ensures { Writes result text.old text.new (declaration_lines (between opening.now closing.now) (collections_numbered collections.now)) }
 {
     for number in 0..collections.len() {
         put_declaration(text, collections, number, opening, closing)?;

@@ -1,7 +1,6 @@
-ghost use Rattle.std.specs.Prelude.{◌≡◌, ◌++◌, OnOk, codes, map};
-ghost use Rattle.std.specs.List.{flat_map};
-ghost use Rattle.graph.specs.Canonical.{operator_text, expression_text, item_text, tag_text};
-ghost use Rattle.graph.specs.Pieces.{after_colon, names_of_words};
+ghost use Rattle.std.specs.Prelude.{◌≡◌, map};
+ghost use Rattle.graph.specs.Canonical.{after_commas, operator_text, expression_text, item_text, tag_text};
+ghost use Rattle.graph.specs.Pieces.{Writes, after_colon, in_words};
 
 use super::pieces::{put, put_number};
 use super::words::Words;
@@ -35,7 +34,7 @@ pub(crate) fn put_expression(
     words: &Words<'_>,
     expression: &Expression,
 ) -> Result<(), AllocError>
-    ensures { OnOk result (text.new.items ≡ text.old.items ++ expression_text words.now.graph.now (names_of_words words.now) expression.now) }
+    ensures { Writes result text.old text.new (in_words words.now expression_text expression.now) }
 {
     match &expression.node {
         Node::Number(number) => put_number(text, *number),
@@ -63,7 +62,7 @@ fn put_more(
     words: &Words<'_>,
     expressions: &[Expression],
 ) -> Result<(), AllocError>
-    ensures { OnOk result (text.new.items ≡ text.old.items ++ flat_map (λ text. codes ", " ++ text) (map (expression_text words.now.graph.now (names_of_words words.now)) expressions.now)) }
+    ensures { Writes result text.old text.new (after_commas (map (in_words words.now expression_text) expressions.now)) }
 {
     for expression in expressions {
         put(text, &[", "])?;
@@ -79,7 +78,7 @@ fn put_components(
     words: &Words<'_>,
     components: &[Expression],
 ) -> Result<(), AllocError>
-    ensures { OnOk result (text.new.items ≡ text.old.items ++ after_colon (map (expression_text words.now.graph.now (names_of_words words.now)) components.now)) }
+    ensures { Writes result text.old text.new (after_colon (map (in_words words.now expression_text) components.now)) }
 {
     match components {
         [] => Ok(()),
@@ -99,7 +98,7 @@ pub(crate) fn put_item(
     item: ItemCollection,
     components: &Components,
 ) -> Result<(), AllocError>
-    ensures { OnOk result (text.new.items ≡ text.old.items ++ item_text words.now.graph.now (names_of_words words.now) item.0 components.now) }
+    ensures { Writes result text.old text.new (in_words words.now item_text item.0 components.now) }
 {
     put(text, &["["])?;
     words.put_item_name(text, item)?;
@@ -115,7 +114,7 @@ pub(crate) fn put_tag(
     tag: TagCollection,
     components: &Components,
 ) -> Result<(), AllocError>
-    ensures { OnOk result (text.new.items ≡ text.old.items ++ tag_text words.now.graph.now (names_of_words words.now) tag.0 components.now) }
+    ensures { Writes result text.old text.new (in_words words.now tag_text tag.0 components.now) }
 {
     put(text, &["<"])?;
     words.put_tag_name(text, tag)?;

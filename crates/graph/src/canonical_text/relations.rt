@@ -1,8 +1,5 @@
-ghost use Rattle.std.specs.Prelude.{◌≡◌, ◌++◌, OnOk, get_or, slice_get, false};
-ghost use Rattle.std.specs.List.{flat_map, zip};
-ghost use Rattle.graph.specs.Canonical.{marked};
 ghost use Rattle.graph.specs.Numbered.{names_numbered};
-ghost use Rattle.graph.specs.Pieces.{relation_line, where_marked};
+ghost use Rattle.graph.specs.Pieces.{Writes, relation_line, relation_at, relation_lines};
 
 use super::pieces::put;
 use crate::numbered::Numbered;
@@ -22,7 +19,7 @@ pub(crate) enum Kind<'a> {
 /// The line of a relation.
 #[tactic(auto, using(std::proofs::Common::append_assoc))]
 fn put_relation(text: &mut Vec<u8>, kind: Kind<'_>, name: &str) -> Result<(), AllocError>
-    ensures { OnOk result (text.new.items ≡ text.old.items ++ relation_line kind.entry name.now) }
+    ensures { Writes result text.old text.new (relation_line kind.entry name.now) }
 {
     match kind {
         Kind::Reads(step) => put(text, &["[", name, "] -> (", step, ");\n"]),
@@ -42,7 +39,7 @@ fn put_relation_at(
     marks: &[bool],
     number: usize,
 ) -> Result<(), AllocError>
-    ensures { OnOk result (text.new.items ≡ text.old.items ++ where_marked (relation_line kind.entry) (slice_get (names_numbered collections.now) number) (get_or marks.now number false)) }
+    ensures { Writes result text.old text.new (relation_at kind.entry (names_numbered collections.now) marks.now number) }
 {
     match collections.name(number) {
         Some(name) => {
@@ -63,7 +60,7 @@ pub(crate) fn put_relations(
     collections: &Numbered<usize>,
     marks: &[bool],
 ) -> Result<(), AllocError>
-    ensures { OnOk result (text.new.items ≡ text.old.items ++ flat_map (relation_line kind.entry) (marked (zip (names_numbered collections.now) marks.now))) }
+    ensures { Writes result text.old text.new (relation_lines kind.entry (names_numbered collections.now) marks.now) }
 {
     for number in 0..collections.len() {
         put_relation_at(text, kind, collections, marks, number)?;

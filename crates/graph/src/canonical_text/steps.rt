@@ -1,8 +1,7 @@
-ghost use Rattle.std.specs.Prelude.{◌≡◌, ◌≤◌, ◌++◌, [], OnOk, codes, drop, get_or, length, map, take};
-ghost use Rattle.std.specs.List.{flat_map};
-ghost use Rattle.graph.specs.Canonical.{block_text, in_rounds, joined, line, step_text, variables_line};
-ghost use Rattle.graph.specs.Seen.{step_seen};
-ghost use Rattle.graph.specs.Pieces.{names_of_words};
+ghost use Rattle.std.specs.Prelude.{◌≤◌, length};
+ghost use Rattle.graph.specs.Canonical.{after_commas, heading_text, joined, step_line, step_text, variables_line};
+ghost use Rattle.graph.specs.Seen.{owned_texts, step_seen};
+ghost use Rattle.graph.specs.Pieces.{Writes, in_words, section_text};
 
 use super::blocks::{put_block, put_line};
 use super::pieces::put;
@@ -15,7 +14,7 @@ use steptree::Block;
 /// Names, each after a comma.
 #[tactic(auto, using(std::proofs::Common::append_assoc))]
 fn put_more_names(text: &mut Vec<u8>, names: &[String]) -> Result<(), AllocError>
-    ensures { OnOk result (text.new.items ≡ text.old.items ++ flat_map (λ text. codes ", " ++ text) (map (λ name. name.bytes.items) names.now)) }
+    ensures { Writes result text.old text.new (after_commas (owned_texts names.now)) }
 {
     for name in names {
         put(text, &[", ", name.as_str()])?;
@@ -26,7 +25,7 @@ fn put_more_names(text: &mut Vec<u8>, names: &[String]) -> Result<(), AllocError
 /// Names, with commas between them.
 #[tactic(auto, using(std::proofs::Common::append_assoc))]
 fn put_names(text: &mut Vec<u8>, names: &[String]) -> Result<(), AllocError>
-    ensures { OnOk result (text.new.items ≡ text.old.items ++ joined (map (λ name. name.bytes.items) names.now)) }
+    ensures { Writes result text.old text.new (joined (owned_texts names.now)) }
 {
     match names {
         [] => Ok(()),
@@ -40,7 +39,7 @@ fn put_names(text: &mut Vec<u8>, names: &[String]) -> Result<(), AllocError>
 /// The line of the variables, if there are any.
 #[tactic(auto, using(std::proofs::Common::append_assoc))]
 fn put_variables(text: &mut Vec<u8>, names: &[String]) -> Result<(), AllocError>
-    ensures { OnOk result (text.new.items ≡ text.old.items ++ variables_line (map (λ name. name.bytes.items) names.now)) }
+    ensures { Writes result text.old text.new (variables_line (owned_texts names.now)) }
 {
     match names {
         [] => Ok(()),
@@ -55,7 +54,7 @@ fn put_variables(text: &mut Vec<u8>, names: &[String]) -> Result<(), AllocError>
 /// The first line of a step.
 #[tactic(auto, using(crate::proofs::Written::is_line, std::proofs::Common::append_assoc))]
 fn put_head(text: &mut Vec<u8>, name: &str, parameters: &[String]) -> Result<(), AllocError>
-    ensures { OnOk result (text.new.items ≡ text.old.items ++ line 0 (codes "step " ++ name.now ++ in_rounds (joined (map (λ name. name.bytes.items) parameters.now)) ++ codes " {")) }
+    ensures { Writes result text.old text.new (step_line name.now (owned_texts parameters.now)) }
 {
     put(text, &["step ", name, "("])?;
     put_names(text, parameters)?;
@@ -70,7 +69,7 @@ fn put_section(
     title: &str,
     block: &Block,
 ) -> Result<(), AllocError>
-    ensures { OnOk result (text.new.items ≡ text.old.items ++ (line 1 title.now ++ block_text words.now.graph.now (names_of_words words.now) 2 block.now ++ line 1 (codes "}"))) }
+    ensures { Writes result text.old text.new (in_words words.now section_text title.now block.now) }
 {
     put_line(text, 1, title)?;
     put_block(text, words, 2, block)?;
@@ -85,7 +84,7 @@ fn put_heading(
     parameters: usize,
 ) -> Result<(), AllocError>
     requires { parameters ≤ length names.now }
-    ensures { OnOk result (text.new.items ≡ text.old.items ++ (line 0 (codes "step " ++ name.now ++ in_rounds (joined (take parameters (map (λ name. name.bytes.items) names.now))) ++ codes " {") ++ variables_line (drop parameters (map (λ name. name.bytes.items) names.now)))) }
+    ensures { Writes result text.old text.new (heading_text name.now (owned_texts names.now) parameters) }
 {
     put_head(text, name, &names[..parameters])?;
     put_variables(text, &names[parameters..])?;
@@ -101,7 +100,7 @@ pub(crate) fn put_step(
     step: &Prescribed,
 ) -> Result<(), AllocError>
     requires { step.now.checked.parameters ≤ length step.now.checked.names.items }
-    ensures { OnOk result (text.new.items ≡ text.old.items ++ step_text graph.now (step_seen (name.now, step.now))) }
+    ensures { Writes result text.old text.new (step_text graph.now (step_seen (name.now, step.now))) }
 {
     let names = step.checked.names.as_slice();
     let words = Words { graph, names };

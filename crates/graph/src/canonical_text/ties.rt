@@ -1,8 +1,6 @@
-ghost use Rattle.std.specs.Prelude.{◌≡◌, ◌++◌, [], OnOk, codes, get_or};
-ghost use Rattle.std.specs.List.{flat_map};
-ghost use Rattle.graph.specs.Canonical.{environment_relations, in_angles, in_rounds, line, step_relations, those};
+ghost use Rattle.graph.specs.Canonical.{environment_relations, prescription_line, step_relations};
 ghost use Rattle.graph.specs.Seen.{step_seen};
-ghost use Rattle.graph.specs.Pieces.{relation_line};
+ghost use Rattle.graph.specs.Pieces.{Writes, relation_lines};
 ghost use Rattle.steptree.specs.Names.{names_in};
 
 use super::pieces::put;
@@ -20,7 +18,7 @@ fn put_item_relations(
     kind: Kind<'_>,
     marks: &[bool],
 ) -> Result<(), AllocError>
-    ensures { OnOk result (text.new.items ≡ text.old.items ++ flat_map (relation_line kind.entry) (those graph.now.items marks.now)) }
+    ensures { Writes result text.old text.new (relation_lines kind.entry (names_in graph.now.items) marks.now) }
 {
     put_relations(text, kind, graph.items, marks)?;
     Ok(())
@@ -33,7 +31,7 @@ fn put_tag_relations(
     kind: Kind<'_>,
     marks: &[bool],
 ) -> Result<(), AllocError>
-    ensures { OnOk result (text.new.items ≡ text.old.items ++ flat_map (relation_line kind.entry) (those graph.now.tags marks.now)) }
+    ensures { Writes result text.old text.new (relation_lines kind.entry (names_in graph.now.tags) marks.now) }
 {
     put_relations(text, kind, graph.tags, marks)?;
     Ok(())
@@ -47,7 +45,7 @@ fn put_prescription(
     tag: TagCollection,
     step: &str,
 ) -> Result<(), AllocError>
-    ensures { OnOk result (text.new.items ≡ text.old.items ++ line 0 (in_angles (get_or (names_in words.now.graph.now.tags) tag.0 []) ++ codes " :: " ++ in_rounds step.now ++ codes ";")) }
+    ensures { Writes result text.old text.new (prescription_line words.now.graph.now tag.0 step.now) }
 {
     put(text, &["<"])?;
     words.put_tag_name(text, tag)?;
@@ -62,7 +60,7 @@ pub(crate) fn put_step_relations(
     name: &str,
     step: &Prescribed,
 ) -> Result<(), AllocError>
-    ensures { OnOk result (text.new.items ≡ text.old.items ++ step_relations graph.now (step_seen (name.now, step.now))) }
+    ensures { Writes result text.old text.new (step_relations graph.now (step_seen (name.now, step.now))) }
 {
     let names = step.checked.names.as_slice();
     let words = Words { graph, names };
@@ -75,7 +73,7 @@ pub(crate) fn put_step_relations(
 /// The relations of the environment.
 #[tactic(auto, using(std::proofs::Common::append_assoc))]
 pub(crate) fn put_environment(text: &mut Vec<u8>, graph: &Parts<'_>) -> Result<(), AllocError>
-    ensures { OnOk result (text.new.items ≡ text.old.items ++ environment_relations graph.now) }
+    ensures { Writes result text.old text.new (environment_relations graph.now) }
 {
     put_item_relations(
         text,

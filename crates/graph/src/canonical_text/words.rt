@@ -1,6 +1,6 @@
-ghost use Rattle.std.specs.Prelude.{◌≡◌, ◌++◌, [], OnOk, get_or};
+ghost use Rattle.std.specs.Prelude.{[], get_or};
 ghost use Rattle.graph.specs.Canonical.{variable_text};
-ghost use Rattle.graph.specs.Pieces.{names_of_words};
+ghost use Rattle.graph.specs.Pieces.{Writes, in_words};
 ghost use Rattle.steptree.specs.Names.{names_in};
 
 use super::pieces::put;
@@ -19,7 +19,7 @@ pub(crate) struct Words<'a> {
 impl Words<'_> {
     /// The name of a variable.
     pub(crate) fn put_variable(&self, text: &mut Vec<u8>, slot: Slot) -> Result<(), AllocError>
-        ensures { OnOk result (text.new.items ≡ text.old.items ++ variable_text self.now.graph.now (names_of_words self.now) slot) }
+        ensures { Writes result text.old text.new (in_words self.now variable_text slot) }
     {
         let place = slot.place();
         if place < self.names.len() {
@@ -35,7 +35,7 @@ impl Words<'_> {
         text: &mut Vec<u8>,
         item: ItemCollection,
     ) -> Result<(), AllocError>
-        ensures { OnOk result (text.new.items ≡ text.old.items ++ get_or (names_in self.now.graph.now.items) item.0 []) }
+        ensures { Writes result text.old text.new (get_or (names_in self.now.graph.now.items) item.0 []) }
     {
         match self.graph.item_name(item) {
             Some(name) => put(text, &[name]),
@@ -49,7 +49,7 @@ impl Words<'_> {
         text: &mut Vec<u8>,
         tag: TagCollection,
     ) -> Result<(), AllocError>
-        ensures { OnOk result (text.new.items ≡ text.old.items ++ get_or (names_in self.now.graph.now.tags) tag.0 []) }
+        ensures { Writes result text.old text.new (get_or (names_in self.now.graph.now.tags) tag.0 []) }
     {
         match self.graph.tag_name(tag) {
             Some(name) => put(text, &[name]),

@@ -1,18 +1,17 @@
-use Rattle.std.proofs.Common.{◌≡◌, ◌∙◌, ◌+◌, Some, ap, sym, subst, arith, take, slice_get}
-use Rattle.std.proofs.lemmas.Option.{slice_get-get_or}
-use Rattle.steptree.specs.declared.step.Step.{Step as NamedStep}
+use Rattle.std.proofs.Common.{◌≡◌, ◌+◌, Some, sym, subst, arith, take, slice_get}
 use Rattle.graph.specs.CheckedSteps.{AreCheckedSteps}
 use Rattle.graph.proofs.BodyFaults.{body_first, next_checked, name_is_new, all_checked}
 use Rattle.graph.proofs.FirstFaults.{fault_passed_on}
 use Rattle.graph.proofs.Sheets.{its_place}
 use Rattle.graph.proofs.bodies.check_bodies.Goals as goal
+use Rattle.graph.proofs.Lists.{there_at}
 
 pub returns-in_err-checked : goal.returns-in_err-checked
 returns-in_err-checked c =
     let tree = c.args.tree.now in
     let number = c.loop-number.number in
     let step = c.index-step.result.now in
-    let there : slice_get tree.steps.items number ≡ Some step = slice_get-get_or tree.steps.items number step (omega arith) ∙ ap (λ (s : NamedStep). Some s) (sym c.index-step.ensures) in
+    let there : slice_get tree.steps.items number ≡ Some step = there_at tree.steps.items number step (omega arith) c.index-step.ensures in
     let fault = c.in_err-checked.field-0.0 in
     fault_passed_on _ _ c.from_residual.result fault c.from_residual.ensures.1
     (body_first tree number step (omega arith) c.index-step.ensures c.loop-number.steps c.loop-number.invariant fault c.requires.no_fault (c.in_err-checked.ensures step there))
@@ -22,7 +21,7 @@ push-requires c =
     let tree = c.args.tree.now in
     let number = c.loop-number.number in
     let step = c.index-step.result.now in
-    let there : slice_get tree.steps.items number ≡ Some step = slice_get-get_or tree.steps.items number step (omega arith) ∙ ap (λ (s : NamedStep). Some s) (sym c.index-step.ensures) in
+    let there : slice_get tree.steps.items number ≡ Some step = there_at tree.steps.items number step (omega arith) c.index-step.ensures in
     name_is_new tree number step (omega arith) c.index-step.ensures c.loop-number.steps c.loop-number.invariant
     (its_place tree c.args.resolved.now c.requires.small c.requires.no_fault c.requires.resolved number step there)
 
@@ -31,7 +30,7 @@ loop-number-preserved c =
     let tree = c.args.tree.now in
     let number = c.loop-number.number in
     let step = c.index-step.result.now in
-    let there : slice_get tree.steps.items number ≡ Some step = slice_get-get_or tree.steps.items number step (omega arith) ∙ ap (λ (s : NamedStep). Some s) (sym c.index-step.ensures) in
+    let there : slice_get tree.steps.items number ≡ Some step = there_at tree.steps.items number step (omega arith) c.index-step.ensures in
     subst (AreCheckedSteps tree (take (number + 1) tree.steps.items)) (sym c.in_ok-push.ensures)
     (next_checked tree number step (omega arith) c.index-step.ensures c.loop-number.steps c.loop-number.invariant c.in_ok-checked.checked (c.in_ok-checked.ensures step there))
 

@@ -1,5 +1,4 @@
 use Rattle.std.proofs.Common.{Some, None, ◌≡◌, ◌∙◌, ap, sym, subst, slice_get}
-use Rattle.std.proofs.lemmas.Option.{slice_get-get_or}
 use Rattle.steptree.specs.declared.step.Step.{Step as NamedStep}
 use Rattle.steptree.specs.CheckFaults.{faults_of}
 use Rattle.steptree.specs.Nameable.{Nameable}
@@ -9,34 +8,23 @@ use Rattle.graph.specs.CheckedSteps.{IsBodyFault, IsCheckedStep}
 use Rattle.steptree.specs.Names.{names_in}
 use Rattle.graph.specs.Tree.{items_of, tags_of, is_read, is_item_put, is_tag_put}
 use Rattle.graph.proofs.FirstFaults.{fault_passed_on}
-use Rattle.graph.proofs.Lists.{any_default}
+use Rattle.graph.proofs.Lists.{any_default, there_at}
 use Rattle.graph.proofs.Sheets.{within_limits, is_sheet, is_prescribed, prescribed_by, prescriber_within, first_of_body, one_step, copied_row}
 use Rattle.graph.proofs.bodies.check_step.Goals as goal
 
 pub check_body-requires : goal.check_body-requires
 check_body-requires c =
     let step = c.index-4.result.now in
-    let there : slice_get c.args.tree.now.steps.items c.args.number ≡ Some step =
-    slice_get-get_or c.args.tree.now.steps.items c.args.number step c.requires.within ∙ ap (λ (s : NamedStep). Some s) (sym c.index-4.ensures) in
+    let there : slice_get c.args.tree.now.steps.items c.args.number ≡ Some step = there_at c.args.tree.now.steps.items c.args.number step c.requires.within c.index-4.ensures in
     within_limits c.args.tree.now c.args.resolved.now c.requires.small c.requires.no_fault c.requires.resolved c.args.number step there _ c.deref.ensures.value c.deref-2.ensures.value
 
 pub returns-in_err-checked : goal.returns-in_err-checked
 returns-in_err-checked c = λ step there.
     let tree = c.args.tree.now in
     let this = c.index-4.result.now in
-    let here : slice_get tree.steps.items c.args.number ≡ Some this =
-    slice_get-get_or tree.steps.items c.args.number this c.requires.within ∙ ap (λ (s : NamedStep). Some s) (sym c.index-4.ensures) in
+    let here : slice_get tree.steps.items c.args.number ≡ Some this = there_at tree.steps.items c.args.number this c.requires.within c.index-4.ensures in
     let sheet : Nameable = record { items = c.deref.result.now; tags = c.deref-2.result.now; reads = c.deref-3.result.now; item_puts = c.deref-4.result.now; tag_puts = c.deref-5.result.now } in
-    let is = is_sheet tree c.args.resolved.now c.requires.small c.requires.no_fault c.requires.resolved c.args.number this here sheet c.index.result.now c.index-2.result.now c.index-3.result.now (record {
-      items_are = c.deref.ensures.value;
-      tags_are = c.deref-2.ensures.value;
-      reads_are = c.deref-3.ensures.value;
-      item_puts_are = c.deref-4.ensures.value;
-      tag_puts_are = c.deref-5.ensures.value;
-      reads_there = c.index.ensures;
-      item_puts_there = c.index-2.ensures;
-      tag_puts_there = c.index-3.ensures;
-    }) in
+    let is = is_sheet tree c.args.resolved.now c.requires.small c.requires.no_fault c.requires.resolved c.args.number this here sheet c.index.result.now c.index-2.result.now c.index-3.result.now (assumption) in
     fault_passed_on (IsCheckedStep tree step) (IsBodyFault tree step) c.from_residual.result c.in_err-checked.field-0.0 c.from_residual.ensures.1
     (subst (λ (s : NamedStep). IsBodyFault tree s c.in_err-checked.field-0.0) (one_step tree.steps.items c.args.number this step here there)
     (first_of_body tree this sheet c.in_err-checked.field-0.0 is c.in_err-checked.ensures.first))
@@ -44,8 +32,7 @@ returns-in_err-checked c = λ step there.
 pub unwrap-requires : goal.unwrap-requires
 unwrap-requires c =
     let step = c.index-4.result.now in
-    let there : slice_get c.args.tree.now.steps.items c.args.number ≡ Some step =
-    slice_get-get_or c.args.tree.now.steps.items c.args.number step c.requires.within ∙ ap (λ (s : NamedStep). Some s) (sym c.index-4.ensures) in
+    let there : slice_get c.args.tree.now.steps.items c.args.number ≡ Some step = there_at c.args.tree.now.steps.items c.args.number step c.requires.within c.index-4.ensures in
     is_prescribed c.args.tree.now c.args.resolved.now c.requires.small c.requires.no_fault c.requires.resolved c.args.number step there c.index-5.result.now
     (any_default c.args.resolved.now.relations.prescribers.items c.args.number None c.index-5.result.now
     (prescriber_within c.args.tree.now c.args.resolved.now c.requires.small c.requires.no_fault c.requires.resolved c.args.number step there) ∙ sym c.index-5.ensures)
@@ -54,19 +41,9 @@ pub returns : goal.returns
 returns c = λ step there.
     let tree = c.args.tree.now in
     let this = c.index-4.result.now in
-    let here : slice_get tree.steps.items c.args.number ≡ Some this =
-    slice_get-get_or tree.steps.items c.args.number this c.requires.within ∙ ap (λ (s : NamedStep). Some s) (sym c.index-4.ensures) in
+    let here : slice_get tree.steps.items c.args.number ≡ Some this = there_at tree.steps.items c.args.number this c.requires.within c.index-4.ensures in
     let sheet : Nameable = record { items = c.deref.result.now; tags = c.deref-2.result.now; reads = c.deref-3.result.now; item_puts = c.deref-4.result.now; tag_puts = c.deref-5.result.now } in
-    let is = is_sheet tree c.args.resolved.now c.requires.small c.requires.no_fault c.requires.resolved c.args.number this here sheet c.index.result.now c.index-2.result.now c.index-3.result.now (record {
-      items_are = c.deref.ensures.value;
-      tags_are = c.deref-2.ensures.value;
-      reads_are = c.deref-3.ensures.value;
-      item_puts_are = c.deref-4.ensures.value;
-      tag_puts_are = c.deref-5.ensures.value;
-      reads_there = c.index.ensures;
-      item_puts_there = c.index-2.ensures;
-      tag_puts_there = c.index-3.ensures;
-    }) in
+    let is = is_sheet tree c.args.resolved.now c.requires.small c.requires.no_fault c.requires.resolved c.args.number this here sheet c.index.result.now c.index-2.result.now c.index-3.result.now (assumption) in
     let at =
     any_default c.args.resolved.now.relations.prescribers.items c.args.number None c.index-5.result.now
     (prescriber_within c.args.tree.now c.args.resolved.now c.requires.small c.requires.no_fault c.requires.resolved c.args.number this here) ∙ sym c.index-5.ensures in

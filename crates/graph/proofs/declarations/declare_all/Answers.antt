@@ -1,7 +1,7 @@
 use Rattle.std.proofs.Common.{refl}
 use Rattle.syntax.specs.declared.tree.Declaration.TheVariants as declared
 use Rattle.graph.proofs.Declaring.{item_declared, tag_declared, item_fault, tag_fault}
-use Rattle.graph.proofs.FirstFaults.{passed_on}
+use Rattle.graph.proofs.FirstFaults.{fault_passed_on}
 use Rattle.graph.proofs.Lists.{stands}
 use Rattle.graph.proofs.declarations.declare_all.Goals.{in-Item+in_ok-declare-in-Item, in-Tag+in_ok-declare-in-Tag}
 use Rattle.graph.proofs.declarations.declare_all.Goals as goal
@@ -11,7 +11,7 @@ returns-in_err-declare-in-Item-clause-faults c =
     let l = c.loop-declaration in
     let ds = c.args.declarations.now in
     let fault = c.in_err-declare-in-Item.field-0.0 in
-    passed_on _ c.from_residual.result fault c.from_residual.ensures.1
+    fault_passed_on _ _ c.from_residual.result fault c.from_residual.ensures.1
     (item_fault ds l.declaration-index l.items l.tags (declared.Item c.in-Item.name c.in-Item.components) c.loop-declaration-test.true
     (stands ds l.declaration-index _ (declared.Item c.in-Item.name c.in-Item.components) c.loop-declaration-test.true c.in-Item.is)
     c.in-Item.name c.in-Item.components fault refl l.invariant c.in_err-declare-in-Item.ensures.faults)
@@ -21,7 +21,7 @@ returns-in_err-declare-in-Tag-clause-faults c =
     let l = c.loop-declaration in
     let ds = c.args.declarations.now in
     let fault = c.in_err-declare-in-Tag.field-0.0 in
-    passed_on _ c.from_residual-in_err-declare-in-Tag.result fault c.from_residual-in_err-declare-in-Tag.ensures.1
+    fault_passed_on _ _ c.from_residual-in_err-declare-in-Tag.result fault c.from_residual-in_err-declare-in-Tag.ensures.1
     (tag_fault ds l.declaration-index l.items l.tags (declared.Tag c.in-Tag.name c.in-Tag.components) c.loop-declaration-test.true
     (stands ds l.declaration-index _ (declared.Tag c.in-Tag.name c.in-Tag.components) c.loop-declaration-test.true c.in-Tag.is)
     c.in-Tag.name c.in-Tag.components fault refl l.invariant c.in_err-declare-in-Tag.ensures.faults)

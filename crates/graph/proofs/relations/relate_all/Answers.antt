@@ -1,7 +1,7 @@
 use Rattle.std.proofs.Common.{refl, arith, get_or, take}
 use Rattle.syntax.specs.declared.tree.Relation.{Relation}
 use Rattle.syntax.specs.declared.tree.Relation.TheVariants.{Prescribes}
-use Rattle.graph.proofs.FirstFaults.{relation_passed_on}
+use Rattle.graph.proofs.FirstFaults.{fault_passed_on}
 use Rattle.graph.proofs.Lists.{stands}
 use Rattle.graph.proofs.Unmarked.{begun, next_related, first_related, all_related, nameless}
 use Rattle.graph.proofs.relations.relate_all.Goals as goal
@@ -16,7 +16,7 @@ returns-in_err-relate c = λ items tags names numbers long.
     let index = c.loop-relation.relation-index in
     let so = c.loop-relation.invariant items tags names numbers long in
     let this : Relation = get_or all index (Prescribes nameless nameless) in
-    relation_passed_on _ _ c.from_residual-in_err-relate.result c.in_err-relate.field-0.0 c.from_residual-in_err-relate.ensures.1
+    fault_passed_on _ _ c.from_residual-in_err-relate.result c.in_err-relate.field-0.0 c.from_residual-in_err-relate.ensures.1
     (first_related items tags names all index c.loop-relation.them this c.loop-relation-test.true (stands all index (Prescribes nameless nameless) this c.loop-relation-test.true refl) so
     c.in_err-relate.field-0.0 (c.in_err-relate.ensures items tags names (take index all) numbers so.are))
 

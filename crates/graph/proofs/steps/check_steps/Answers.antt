@@ -6,7 +6,7 @@ use Rattle.graph.specs.Placed.{IsFirst}
 use Rattle.graph.specs.Steps.{components_by, components_faults}
 use Rattle.graph.specs.Tree.{step_names}
 use Rattle.graph.proofs.Checking.{compared, first_prescription, first_name, next_step, all_checked}
-use Rattle.graph.proofs.FirstFaults.{passed_on}
+use Rattle.graph.proofs.FirstFaults.{fault_passed_on}
 use Rattle.graph.proofs.Lists.{any_default}
 use Rattle.graph.proofs.Marks.{is_place}
 use Rattle.graph.proofs.steps.check_steps.Goals as goal
@@ -22,7 +22,7 @@ returns-in_err-is_prescribed c = λ items all are places.
     let their = c.components-components.ensures
     ∙ ap (components_by c.args.tags.now) (c.index.ensures ∙ any_default c.args.relations.now.prescribers.items number c.index.result.now None (omega (arith, c.requires))) in
     let fault = c.in_err-is_prescribed.field-0.0 in
-    passed_on _ c.from_residual.result fault c.from_residual.ensures.1
+    fault_passed_on _ _ c.from_residual.result fault c.from_residual.ensures.1
     (first_prescription c.args.tags.now items all steps c.args.relations.now are number this c.loop-number-test.true c.index-steps-number.is left c.ne-twice.result tells fault
     (subst (λ (o : Option ℕ). IsFirst (or_else (fault_if c.ne-twice.result StepTwice this.name.place) (components_faults o this)) fault) their c.in_err-is_prescribed.ensures))
 
@@ -37,7 +37,7 @@ returns-in_err-names_differ c = λ items all are places.
     let their = c.components-components.ensures
     ∙ ap (components_by c.args.tags.now) (c.index.ensures ∙ any_default c.args.relations.now.prescribers.items number c.index.result.now None (omega (arith, c.requires))) in
     let fault = c.in_err-names_differ.field-0.0 in
-    passed_on _ c.from_residual-in_err-names_differ.result fault c.from_residual-in_err-names_differ.ensures.1
+    fault_passed_on _ _ c.from_residual-in_err-names_differ.result fault c.from_residual-in_err-names_differ.ensures.1
     (first_name c.args.tags.now items all steps c.args.relations.now are number this c.loop-number-test.true c.index-steps-number.is left c.ne-twice.result tells fault
     (subst (λ (o : Option ℕ). or_else (fault_if c.ne-twice.result StepTwice this.name.place) (components_faults o this) ≡ []) their c.in_ok-is_prescribed.ensures) c.in_err-names_differ.ensures)
 

@@ -4,7 +4,7 @@ use Rattle.steptree.specs.Statements.{texts}
 use Rattle.graph.specs.Faults.{At, repeated}
 use Rattle.graph.specs.Numbered.{names_numbered}
 use Rattle.graph.specs.Placed.{IsFirst, Reports}
-use Rattle.graph.proofs.FirstFaults.{in_front, empty_in_front, passed_on}
+use Rattle.graph.proofs.FirstFaults.{in_front, empty_in_front, fault_passed_on}
 use Rattle.graph.proofs.Naming.{repeated_both}
 use Rattle.graph.proofs.steps.names_differ.Goals as goal
 
@@ -15,7 +15,7 @@ returns-in_err-add_names c =
     let fault = c.in_err-add_names.field-0.0 in
     let same : repeated (names_numbered c.new-names.result) c.deref.result.now ≡ repeated [] ps =
     ap (λ (l : List (Text × Unit {0})). repeated (names_numbered l) c.deref.result.now) c.new-names.ensures ∙ ap (repeated []) c.deref.ensures.value in
-    passed_on _ c.from_residual.result fault c.from_residual.ensures.1
+    fault_passed_on _ _ c.from_residual.result fault c.from_residual.ensures.1
     (subst (λ (l : List At). IsFirst l fault) (sym (repeated_both [] ps vs)) (in_front (repeated [] ps) (repeated (texts ps) vs) fault
     (subst (λ (l : List At). IsFirst l fault) same c.in_err-add_names.ensures.faults)))
 

@@ -1,12 +1,14 @@
-use Rattle.std.proofs.Common.{refl}
+use Rattle.std.proofs.Common.{refl, ap}
 use Rattle.script.specs.Forms.{get}
 use Rattle.script.specs.Lexemes.{left}
-use Rattle.script.specs.Requests.{named_of}
-use Rattle.script.proofs.Keys.{get_read}
+use Rattle.script.specs.Requests.{named_of, get_named}
+use Rattle.script.proofs.Keys.{no_get}
 use Rattle.script.proofs.request.get.Goals as goal
 
-pub returns-then-is_at_end : goal.returns-then-is_at_end
-returns-then-is_at_end c =
-    let named = c.in-Some.ensures.named in
-    let name = c.in-Some.named.name.now in
-    (get name named.0, get_read (named_of 91 93 (left c.args.cursor.now)) name named.0 (left c.named_key.new.cursor) named.1 c.if-is_at_end.ensures, named.2, (refl, named.3))
+pub returns-in-Some : goal.returns-in-Some
+returns-in-Some c =
+    let named = c.in-Some.ensures in
+    (get c.in-Some.named.name.now named.0, ap get_named named.1, named.2, (refl, named.3))
+
+pub returns-in-None : goal.returns-in-None
+returns-in-None c = no_get (named_of 91 93 (left c.args.cursor.now)) c.in-None.ensures
