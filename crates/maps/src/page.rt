@@ -129,6 +129,22 @@ impl<V: Stored> Page<V> {
         Err(low)
     }
 
+    /// Whether the key is at this place. It takes one comparison at most.
+    pub fn has_at(&self, place: usize, key: &Key, words: &[i64], steps: &mut Steps) -> bool
+        requires page { IsPage V.said V.MOST words.now self.now }
+        requires sorted { T (is_sorted key_cmp (entries_in V.said words.now self.now)) }
+        ensures { IsTrue result → IsAt (entries_in V.said words.now self.now) key.now place }
+    {
+        if place >= self.marks.len() {
+            return false;
+        }
+        match steps.compare(&self.key(place, words), key) {
+            Ordering::Less => false,
+            Ordering::Equal => true,
+            Ordering::Greater => false,
+        }
+    }
+
     /// The key at a place.
     pub fn key(&self, place: usize, words: &[i64]) -> Key
         requires page { IsPage V.said V.MOST words.now self.now }

@@ -34,8 +34,8 @@ pub(crate) struct Pages<V: Stored> {
     spare: Vec<Page<V>>,
     count: usize,
     room: usize,
-    // The page of the last change, in which a search looks first. Any number will do.
-    near: usize,
+    // Where the last change was: a search looks there first. Any place will do.
+    near: Hint,
     alloc: Global,
 }
 
@@ -73,7 +73,7 @@ impl<V: Stored> Pages<V> {
             spare: Vec::new(alloc),
             count: 0,
             room: 0,
-            near: 0,
+            near: Hint::new(),
             alloc,
         }
     }
@@ -140,8 +140,8 @@ impl<V: Stored> Pages<V> {
         self.search_page(page, key, steps)
     }
 
-    /// The same. If the key is greater than all others, that takes one comparison; if it is in the page of the last change or in the one
-    /// after it, no search among the pages.
+    /// The same. If the key is greater than all others, that takes one comparison; if it is the key of the last change or the next one in
+    /// its page, five at most; if it is in that page or in the one after it, no search among the pages.
     pub fn search(&self, key: Key) -> Found
         ensures { IsFound self.now.pages key result }
     {
@@ -152,11 +152,12 @@ impl<V: Stored> Pages<V> {
         if self.pages[count - 1].ends_before(key, &self.words) {
             return self.end();
         }
-        self.find_near(&key, &mut Hint { page: self.near })
+        let mut hint = self.near;
+        self.find_near(&key, &mut hint)
     }
 
-    /// The same. It looks first in the page that the hint gives and in the one after it, and sets the hint to the page where the key is or
-    /// would be.
+    /// The same. It looks first at the place that the hint gives and at the one before it, then in that page and in the one after it. It sets
+    /// the hint to the place after the key, or where the key would be.
     pub fn find_near(&self, key: &Key, hint: &mut Hint) -> Found
         ensures { IsFound self.now.pages key.now result }
     {
@@ -165,8 +166,14 @@ impl<V: Stored> Pages<V> {
         }
         let mut steps = Steps::new();
         let page = self.page_near(hint.page, key, &mut steps);
-        hint.page = page;
-        self.search_page(page, key, &mut steps)
+        let place = if page == hint.page { hint.place } else { 0 };
+        let found = self.search_page_near(page, place, key, &mut steps);
+        *hint = match found {
+            Found::At(_, at) => Hint::after(page, at),
+            Found::Gap(_, place) => Hint { page, place },
+            Found::Behind => *hint,
+        };
+        found
     }
 
     // The page in which the key is, if it is in one. It looks at these two pages before it searches.
@@ -218,6 +225,29 @@ impl<V: Stored> Pages<V> {
         Found::Behind
     }
 
+    // Where the key is in the page for it, or where it would go there. It looks at this place first, and then at the one before it.
+    fn search_page_near(&self, page: usize, place: usize, key: &Key, steps: &mut Steps) -> Found
+        requires { IsPageFor self.now.pages key.now page }
+        ensures { IsFound self.now.pages key.now result }
+    {
+        if self.is_in_page(page, place, key, steps) {
+            return Found::At(page, place);
+        }
+        let before = place.saturating_sub(1);
+        if self.is_in_page(page, before, key, steps) {
+            return Found::At(page, before);
+        }
+        self.search_page(page, key, steps)
+    }
+
+    // Whether the key is at this place of the page for it.
+    fn is_in_page(&self, page: usize, place: usize, key: &Key, steps: &mut Steps) -> bool
+        requires { IsPageFor self.now.pages key.now page }
+        ensures { IsTrue result → IsInPage self.now.pages key.now page place }
+    {
+        self.pages[page].has_at(place, key, &self.words, steps)
+    }
+
     // Where the key is in the page for it, or where it would go there.
     fn search_page(&self, page: usize, key: &Key, steps: &mut Steps) -> Found
         requires { IsPageFor self.now.pages key.now page }
@@ -260,7 +290,7 @@ impl<V: Stored> Pages<V> {
     {
         value.write(&mut self.words);
         self.pages[page].set(place, value.brief());
-        self.near = page;
+        self.near = Hint::after(page, place);
     }
 
     /// Adds an entry into a page, at the place where its key goes.
@@ -270,7 +300,7 @@ impl<V: Stored> Pages<V> {
         ensures entries { all_of self.new.pages ≡ put key_cmp key value (all_of self.old.pages) }
         ensures room { self.new.room + 1 ≡ self.old.room }
     {
-        self.near = page;
+        self.near = Hint::after(page, place);
         if self.pages[page].len() < PAGE {
             self.add_to_page(page, place, key, value);
         } else {
@@ -321,7 +351,7 @@ impl<V: Stored> Pages<V> {
             let mut page = spare;
             let mark = spell(&mut self.words, &key, &value);
             page.insert(0, key, mark);
-            self.near = self.pages.len();
+            self.near = Hint::after(self.pages.len(), 0);
             self.pages.push_reserved(page);
             self.count += 1;
             self.room -= 1;
