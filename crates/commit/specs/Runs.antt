@@ -34,10 +34,20 @@ use Rattle.commit.specs.Outcome.{Finishes, IsEndOf, Tells}
 use Rattle.commit.specs.Core.{Core, graph, facts, state_of, is_halted}
 use Rattle.commit.specs.Core as core
 use Rattle.commit.specs.Status.{TellsStatus, SaysOfMeaning}
+use Rattle.commit.specs.Steps.{ready_count}
 
 -- no instance runs
 abbrev pub NoneRuns : {D : Type 0} → Core D → Type 0
 NoneRuns c = (instance : Inst) → state_of c instance ≢ Some Running
+
+-- After an instance was run the core is not halted, with nothing in doubt. If the instance came to its end, fewer steps may be committed than before; otherwise this holds.
+abbrev pub RanOn : {D : Type 0} → Core D → Core D → Type 0 → Bool → Type 0
+RanOn old new otherwise ended =
+    (is_halted new ≡ false) × (new.in_doubt ≡ []) × (ended ≡ true → new.allowance < old.allowance) × (ended ≡ false → otherwise)
+
+-- as many steps may be committed, and as many instances are ready
+abbrev pub HasAsMany : {D : Type 0} → Core D → Core D → Type 0
+HasAsMany old new = (new.allowance ≡ old.allowance) × (ready_count new ≡ ready_count old)
 
 -- ---- what is committed
 

@@ -12,12 +12,12 @@ use terms::{Event, FaultKind};
 use vault::{VaultError, stores_go_on};
 
 impl<D: Disk> Core<D> {
-    ghost use Rattle.std.specs.Prelude.{◌≡◌, ◌≤◌, false, IsTrue, Err, IfErr, IfOk, MatchBool, OnErr, OnOk, length};
+    ghost use Rattle.std.specs.Prelude.{◌≡◌, ◌≤◌, false, IsTrue, Err, IfErr, IfOk, OnErr, OnOk, length};
     ghost use Rattle.graph.specs.Fits.{HasNoFault};
     ghost use Rattle.vault.specs.declared.error.VaultError.TheVariants.{NoMemory};
     ghost use Rattle.commit.specs.declared.error.CoreError.TheVariants.{Store};
     ghost use Rattle.machine.specs.Group.{AreEndsHere, AreRunning, EndsTogether, cut, ended_by, puts_of_all};
-    ghost use Rattle.machine.specs.Machine.{HasRoom};
+    ghost use Rattle.machine.specs.Machine.{HasRoom, TellsWhether};
     ghost use Rattle.machine.specs.State.{AreLegalFrom};
     ghost use Rattle.commit.specs.Core.{facts, graph, is_halted};
     ghost use Rattle.commit.specs.Batch.{AreOutcomesOf, EndTheFirst, EndsAll, GivesBackAll, RefusesAllFirst, RefusesEndsAs, TakesAll, ends_said};
@@ -125,7 +125,7 @@ impl<D: Disk> Core<D> {
 
     /// Whether each of these instances runs here, and none is among them twice.
     pub fn runs_all(&self, tasks: &Tasks) -> bool
-        ensures { MatchBool result (AreRunning self.now.machine tasks.now) (AreRunning self.now.machine tasks.now → ⊥) }
+        ensures { TellsWhether result (AreRunning self.now.machine tasks.now) }
     {
         self.machine.runs_all(tasks)
     }

@@ -1,9 +1,7 @@
 ghost use Rattle.std.specs.Prelude.{IfOk};
-ghost use Rattle.std.specs.List.{AllByRecursion};
 ghost use Rattle.codec.specs.Image.{environment_in, facts_in};
-ghost use Rattle.codec.specs.Spelling.{HasPutNumber};
 ghost use Rattle.graph.specs.Fits.{FitsState};
-ghost use Rattle.holdings.specs.Holdings.{IsFor, image_of};
+ghost use Rattle.holdings.specs.Holdings.{HavePutNumbers, IsFor, image_of};
 ghost use Rattle.machine.specs.Restored.{Restores};
 
 use crate::Core;
@@ -76,7 +74,7 @@ impl<D: Disk> Core<D> {
 // The state in memory of a store of this graph, which takes over what was read.
 fn restored(alloc: Global, graph: Graph, holdings: Holdings) -> Result<Machine, AllocError>
     requires fits { FitsState graph (environment_in (image_of holdings)) (facts_in (image_of holdings)) }
-    requires numbered { AllByRecursion HasPutNumber (image_of holdings).items }
+    requires numbered { HavePutNumbers holdings }
     requires collections { IsFor graph holdings }
     ensures { IfOk result (Restores graph (image_of holdings)) }
 {

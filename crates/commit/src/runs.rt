@@ -35,14 +35,14 @@ pub fn run_with<D: Disk, C: Choose>(
 }
 
 impl<D: Disk> Core<D> {
-    ghost use Rattle.std.specs.Prelude.{◌≡◌, ◌≢◌, ◌<◌, ◌+◌, false, true, [], ℕ, Some, Ok, IsTrue, IfErr, IfOk, OnOk};
+    ghost use Rattle.std.specs.Prelude.{◌≡◌, ◌≢◌, ◌<◌, ◌+◌, false, true, ℕ, Some, Ok, IsTrue, IfErr, IfOk, OnOk};
     ghost use Rattle.instances.specs.declared.state.State.TheVariants.{Running};
     ghost use Rattle.graph.specs.Fits.{HasNoFault};
     ghost use Rattle.terms.specs.declared.name.Inst.{Inst as Instance};
     ghost use Rattle.commit.specs.declared.verdict.Verdict.TheVariants.{Halted};
     ghost use Rattle.commit.specs.Core.{facts, graph as graph_of, is_halted, state_of};
-    ghost use Rattle.commit.specs.Runs.{EndsEarly, IsFull, NoneRuns, RunsOn, RunsWithin, TellsVerdict};
-    ghost use Rattle.commit.specs.Steps.{MayClaim, ready_count};
+    ghost use Rattle.commit.specs.Runs.{EndsEarly, HasAsMany, IsFull, NoneRuns, RanOn, RunsOn, RunsWithin, TellsVerdict};
+    ghost use Rattle.commit.specs.Steps.{MayClaim};
 
     // Runs the steps, as `run_with` does.
     fn run_within<C: Choose>(
@@ -122,7 +122,7 @@ impl<D: Disk> Core<D> {
         requires working { is_halted self.old ≡ false }
         ensures idle { NoneRuns self.new }
         ensures runs { RunsOn D.Disk self.old self.new }
-        ensures ok { IfOk result (λ ended. (is_halted self.new ≡ false) × (self.new.in_doubt ≡ []) × (ended ≡ true → self.new.allowance < self.old.allowance) × (ended ≡ false → MayClaim self.new 0 → ⊥)) }
+        ensures ok { IfOk result (RanOn self.old self.new (MayClaim self.new 0 → ⊥)) }
         ensures err { IfErr result (EndsEarly self.new) }
     {
         facts_are_told_apart();
@@ -155,7 +155,7 @@ impl<D: Disk> Core<D> {
         requires goes_on { (is_halted self.old ≡ false) × HasNoFault (facts self.old) }
         ensures idle { NoneRuns self.new }
         ensures runs { RunsOn D.Disk self.old self.new }
-        ensures ok { IfOk result (λ ended. (is_halted self.new ≡ false) × (self.new.in_doubt ≡ []) × (ended ≡ true → self.new.allowance < self.old.allowance) × (ended ≡ false → (self.new.allowance ≡ self.old.allowance) × (ready_count self.new ≡ ready_count self.old))) }
+        ensures ok { IfOk result (RanOn self.old self.new (HasAsMany self.old self.new)) }
         ensures err { IfErr result (EndsEarly self.new) }
     {
         stores_go_on::<D>();

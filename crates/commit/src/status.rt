@@ -30,7 +30,7 @@ impl<D: Disk> Core<D> {
     ghost use Rattle.commit.specs.Gets.{SaysHalted};
     ghost use Rattle.commit.specs.Runs.{NoneRuns};
     ghost use Rattle.commit.specs.Status.{TellsStatus, SaysOfMeaning};
-    ghost use Rattle.commit.specs.Steps.{ready_count, running_count};
+    ghost use Rattle.commit.specs.Steps.{MayClaim, ready_count, running_count};
 
     /// How far the store is. If legal events led there: a quiet store has nothing left to do, and its facts are the
     /// meaning of the graph on what the environment put; that meaning has the fault of a stopped one. It takes no memory.
@@ -101,6 +101,22 @@ impl<D: Disk> Core<D> {
         ensures { result ≡ min (ready_count self.now) (2 ^ 64 - 1) }
     {
         self.machine.ready()
+    }
+
+    /// Whether `claim(0)` gives an instance: the core is not halted, one is ready, the allowance is greater than the number that run, and no fault stopped the store.
+    pub fn may_claim(&self) -> bool
+        ensures { (result ≡ true) ↔ ((is_halted self.now ≡ false) × MayClaim self.now 0) }
+    {
+        if self.vault.is_halted() {
+            return false;
+        }
+        if let Some(_) = self.machine.fault() {
+            return false;
+        }
+        if self.machine.running() as u64 >= self.allowance {
+            return false;
+        }
+        self.machine.ready() != 0
     }
 
     /// How many instances run, or the greatest `usize` if they are more.

@@ -1,5 +1,5 @@
 -- The two files of a disk.
-use Rattle.std.specs.Prelude.{◌≡◌, ◌≢◌, ◌⊎◌, Bool, true, false, refl}
+use Rattle.std.specs.Prelude.{◌≡◌, ◌≢◌, ◌⊎◌, Bool, true, false, if◌then◌else◌, refl}
 use Rattle.std.proofs.Common.{inl, inr}
 use Rattle.disk.specs.declared.side.Side.{Side}
 use Rattle.disk.specs.declared.side.Side.TheVariants.{A, B}
@@ -15,6 +15,10 @@ is_side B B = true
 abbrev pub pick : {X : Type 0} → X → X → Side → X
 pick a b A = a
 pick a b B = b
+
+-- what one side has is changed so, and the other has what it had
+abbrev pub ChangesSide : {X : Type 0} → Side → (X → X) → (Side → X) → (Side → X) → Type 0
+ChangesSide side change old new = (each : Side) → new each ≡ (if is_side side each then change (old each) else old each)
 
 -- one side or the other
 pub which : (side each : Side) → (side ≡ each) ⊎ (each ≢ side)

@@ -1,6 +1,6 @@
-ghost use Rattle.std.specs.Prelude.{◌≡◌, ◌≤◌, [], take, length, vec_len, if◌then◌else◌, IsTrue, ◌↔◌, OnOk, OnErr, IfOk, IfErr, IsOk};
+ghost use Rattle.std.specs.Prelude.{◌≡◌, ◌≤◌, [], take, length, vec_len, IsTrue, ◌↔◌, OnOk, OnErr, IfOk, IfErr, IsOk};
 ghost use Rattle.disk.specs.declared.side.Side.{Side};
-ghost use Rattle.disk.specs.Side.{is_side, pick};
+ghost use Rattle.disk.specs.Side.{ChangesSide, pick};
 ghost use Rattle.disk.specs.File.{MayLeave, overwritten};
 ghost use Rattle.disk.specs.Calls.{durable_of};
 ghost use Rattle.disk.specs.Crash.{crashed};
@@ -193,7 +193,7 @@ fn write_side(
     bytes: &[u8],
 ) -> Result<(), AllocError>
     requires { at ≤ length (pick a.old.items b.old.items side) }
-    ensures ok { OnOk result ((each : Side) → pick a.new.items b.new.items each ≡ (if is_side side each then overwritten (pick a.old.items b.old.items each) at bytes.now else pick a.old.items b.old.items each)) }
+    ensures ok { OnOk result (ChangesSide side (λ old. overwritten old at bytes.now) (pick a.old.items b.old.items) (pick a.new.items b.new.items)) }
     ensures err { OnErr result ((each : Side) → pick a.new.items b.new.items each ≡ pick a.old.items b.old.items each) }
 {
     match side {
@@ -204,7 +204,7 @@ fn write_side(
 
 // Cuts one of the files.
 fn cut_side(a: &mut Vec<u8>, b: &mut Vec<u8>, side: Side, count: usize)
-    ensures { (each : Side) → pick a.new.items b.new.items each ≡ (if is_side side each then take count (pick a.old.items b.old.items each) else pick a.old.items b.old.items each) }
+    ensures { ChangesSide side (take count) (pick a.old.items b.old.items) (pick a.new.items b.new.items) }
 {
     match side {
         Side::A => a.truncate(count),

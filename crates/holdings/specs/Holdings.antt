@@ -9,6 +9,7 @@ use Rattle.terms.specs.declared.fault.FaultKind.{FaultKind}
 use Rattle.terms.specs.declared.producer.Producer.{Producer}
 use Rattle.codec.specs.declared.image.Image.{Image}
 use Rattle.codec.specs.Entries.{Item, MarkedTag}
+use Rattle.codec.specs.Spelling.{HasPutNumber}
 use Rattle.maps.specs.Numbered.{Place, place_cmp}
 use Rattle.items.specs.Held.{place}
 use Rattle.instances.specs.Known.{inst_place, tag_place}
@@ -36,6 +37,10 @@ pub record Holdings : Type 0 where
 -- the image that lists what is held
 abbrev pub image_of : Holdings → Image
 image_of h = record { fault = h.fault; items = items_of (entries h.items); tags = tags_of (entries h.tags); done = insts_of (entries h.done) }
+
+-- the number of each put that is held is one that a put may have
+abbrev pub HavePutNumbers : Holdings → Type 0
+HavePutNumbers h = AllByRecursion HasPutNumber (image_of h).items
 
 -- there is each collection of the graph, and each step
 abbrev pub IsFor : Graph → Holdings → Type 0

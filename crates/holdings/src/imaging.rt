@@ -9,15 +9,13 @@ use terms::{Addr, Inst, Key, Producer, StepCollection, Tag, TagCollection};
 
 impl Holdings {
     ghost use Rattle.std.specs.Prelude.{◌≡◌, IfOk};
-    ghost use Rattle.std.specs.List.{AllByRecursion};
     ghost use Rattle.codec.specs.Image.{IsListed};
-    ghost use Rattle.codec.specs.Spelling.{HasPutNumber};
-    ghost use Rattle.holdings.specs.Holdings.{image_of};
+    ghost use Rattle.holdings.specs.Holdings.{image_of, HavePutNumbers};
 
     /// The image that lists what is held.
     pub fn image(&self, alloc: Global) -> Result<Image, AllocError>
         ensures image { IfOk result (λ image. image ≡ image_of self.now) }
-        ensures listed { AllByRecursion HasPutNumber (image_of self.now).items → IfOk result IsListed }
+        ensures listed { HavePutNumbers self.now → IfOk result IsListed }
     {
         images_of_maps();
         Ok(Image {

@@ -6,9 +6,8 @@ use std::alloc::{AllocError, Global};
 use terms::{Addr, Inst, MAX_COMPONENTS, Producer, Tag};
 
 impl Holdings {
-    ghost use Rattle.std.specs.Prelude.{◌≡◌, ◌⊎◌, ◌<◌, Err, IfErr, IfOk, IfSome, MatchOption, Ok, Option};
+    ghost use Rattle.std.specs.Prelude.{◌≡◌, ◌⊎◌, ◌<◌, Err, IfErr, IfOk, IfSome, Ok, Option};
     ghost use Rattle.std.specs.FinMap.{empty};
-    ghost use Rattle.std.specs.List.{AllByRecursion};
     ghost use Rattle.terms.specs.Name.{inst_cmp};
     ghost use Rattle.terms.specs.declared.fault.FaultKind.{FaultKind as Kind};
     ghost use Rattle.terms.specs.declared.name.Inst.{Inst as Instance};
@@ -17,15 +16,14 @@ impl Holdings {
     ghost use Rattle.codec.specs.declared.image.Image.{Image};
     ghost use Rattle.codec.specs.Entries.{item_cmp, marked_cmp};
     ghost use Rattle.codec.specs.Reading.{decoded_image, image_fault, instance, item, list, marked};
-    ghost use Rattle.codec.specs.Spelling.{HasPutNumber, SpellsImage};
-    ghost use Rattle.holdings.specs.Holdings.{AreWithin, IsFor, image_of, with_ended, with_fault, with_items, with_tags};
-    ghost use Rattle.holdings.specs.Reading.{ListIsHeld, NoneIsHeld};
+    ghost use Rattle.holdings.specs.Holdings.{AreWithin, IsFor, image_of, with_ended, with_fault, with_items, with_tags, HavePutNumbers};
+    ghost use Rattle.holdings.specs.Reading.{FindsImage, ListIsHeld, NoneIsHeld};
 
     /// What the image that these bytes spell lists. It returns `None` if they spell no image, or if a name of it is of no collection or step of the
     /// graph. An error says that memory was refused.
     pub fn of_image(alloc: Global, graph: &Graph, bytes: &[u8]) -> Result<Option<Self>, AllocError>
-        ensures image { IfOk result (λ found. MatchOption found ((image : Image) → SpellsImage MAX_COMPONENTS bytes.now image → AreWithin graph.now image → ⊥) (λ h. SpellsImage MAX_COMPONENTS bytes.now (image_of h) × AreWithin graph.now (image_of h))) }
-        ensures numbered { IfOk result (λ found. IfSome found (λ h. AllByRecursion HasPutNumber (image_of h).items)) }
+        ensures image { IfOk result (FindsImage graph.now bytes.now) }
+        ensures numbered { IfOk result (λ found. IfSome found (λ h. HavePutNumbers h)) }
         ensures graph { IfOk result (λ found. IfSome found (IsFor graph.now)) }
     {
         image_is_spelled(bytes, MAX_COMPONENTS);

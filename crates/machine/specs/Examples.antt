@@ -11,9 +11,7 @@ use Rattle.terms.specs.declared.event.Event.{Event}
 use Rattle.terms.specs.declared.event.Event.TheVariants.{EnvItem, EnvTag, Done, Stopped}
 use Rattle.terms.specs.Facts.{Fact, item}
 use Rattle.terms.specs.Sets.{among, stated, put_by_environment}
-use Rattle.steptree.specs.Tree.{Number, Variable}
-use Rattle.steptree.specs.declared.block.Block.{Block}
-use Rattle.steptree.specs.Tree.{End, PutItem}
+use Rattle.steptree.specs.Tree.{Number, Variable, Block, End, PutItem}
 use Rattle.steptree.specs.Bodies.{Asks}
 use Rattle.graph.specs.Graph.{Graph, BodyMeans}
 use Rattle.graph.specs.Examples.{fibonacci}

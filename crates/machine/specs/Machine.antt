@@ -1,5 +1,5 @@
 -- The state of a store in memory: its graph and what it holds; what each call does to it, and why a call is refused.
-use Rattle.std.specs.Prelude.{◌≡◌, ◌≢◌, ◌⊎◌, ⊤, ℕ, ℤ, ◌+◌, ◌≤◌, Bool, true, false, List, [], ◌∷◌, length, get_or, slice_get, Option, Some, None}
+use Rattle.std.specs.Prelude.{◌≡◌, ◌≢◌, ◌⊎◌, ⊤, ℕ, ℤ, ◌+◌, ◌≤◌, Bool, true, false, List, [], ◌∷◌, length, get_or, slice_get, MatchBool, Option, Some, None}
 use Rattle.terms.specs.declared.name.Addr.{Addr}
 use Rattle.terms.specs.declared.name.Tag.{Tag}
 use Rattle.terms.specs.declared.name.Inst.{Inst}
@@ -30,6 +30,10 @@ use Rattle.machine.specs.Meaning.{items}
 use Rattle.machine.specs.Putting.{items_to, tags_to, HasRoomFor}
 use Rattle.machine.specs.Memory.{facts_of, environment_of}
 use Rattle.machine.specs.Waking.{woken_among}
+
+-- the answer says whether this holds
+abbrev pub TellsWhether : Bool → Type 0 → Type 0
+TellsWhether answer holds = MatchBool answer holds (holds → ⊥)
 
 pub record Machine : Type 0 where
   pub graph : Graph

@@ -6,25 +6,25 @@ use maps::Hint;
 use terms::{Event, orders_are_total};
 
 impl Machine {
-    ghost use Rattle.std.specs.Prelude.{◌≡◌, ◌+◌, ◌≤◌, [], ◌∷◌, MatchBool, Some, drop, length};
+    ghost use Rattle.std.specs.Prelude.{◌≡◌, ◌+◌, ◌≤◌, [], ◌∷◌, Some, drop, length};
     ghost use Rattle.std.specs.List.{AllByRecursion};
     ghost use Rattle.instances.specs.declared.state.State.TheVariants.{Running};
     ghost use Rattle.machine.specs.Group.{AreEndedBy, AreRunning, GivesAllBack, TakesInTurn, puts_of_all};
     ghost use Rattle.machine.specs.GroupTaking.{TakesFirst};
     ghost use Rattle.machine.specs.Legal.{IsLegal};
-    ghost use Rattle.machine.specs.Machine.{HasRoom, facts, puts_of, running_count, state_of};
+    ghost use Rattle.machine.specs.Machine.{HasRoom, TellsWhether, facts, puts_of, running_count, state_of};
     ghost use Rattle.machine.specs.State.{AreLegalFrom};
 
     /// Whether each of these instances runs here, and none is among them twice.
     pub fn runs_all(&self, tasks: &Tasks) -> bool
-        ensures { MatchBool result (AreRunning self.now tasks.now) (AreRunning self.now tasks.now → ⊥) }
+        ensures { TellsWhether result (AreRunning self.now tasks.now) }
     {
         self.all_run(tasks) && are_once(tasks)
     }
 
     // Whether each of these instances runs here.
     fn all_run(&self, tasks: &Tasks) -> bool
-        ensures { MatchBool result (AllByRecursion (λ instance. state_of self.now instance ≡ Some Running) tasks.now) (AllByRecursion (λ instance. state_of self.now instance ≡ Some Running) tasks.now → ⊥) }
+        ensures { TellsWhether result (AllByRecursion (λ instance. state_of self.now instance ≡ Some Running) tasks.now) }
     {
         let mut hint = Hint::new();
         for number in 0..tasks.len() {

@@ -1,4 +1,4 @@
-ghost use Rattle.std.specs.Prelude.{MatchBool};
+ghost use Rattle.machine.specs.Machine.{TellsWhether};
 ghost use Rattle.machine.specs.Puts.{AreOfOne, IsRepeated};
 
 use crate::Machine;
@@ -6,13 +6,13 @@ use crate::turns::room_in_turn;
 use terms::{Event, equals_are_one, facts_are_told_apart};
 
 impl Machine {
-    ghost use Rattle.std.specs.Prelude.{◌≡◌, ◌≤◌, MatchBool};
+    ghost use Rattle.std.specs.Prelude.{◌≡◌, ◌≤◌};
     ghost use Rattle.std.specs.List.{AllByRecursion};
     ghost use Rattle.terms.specs.Facts as stated;
     ghost use Rattle.terms.specs.Sets.{with_facts};
     ghost use Rattle.machine.specs.Group.{TakesInTurn, puts_of_all};
     ghost use Rattle.machine.specs.Legal.{IsLegal};
-    ghost use Rattle.machine.specs.Machine.{HasRoom, IsPut, facts, running_count};
+    ghost use Rattle.machine.specs.Machine.{HasRoom, IsPut, TellsWhether, facts, running_count};
     ghost use Rattle.machine.specs.Puts.{PutsTogether};
     ghost use Rattle.machine.specs.State.{AreLegalFrom};
 
@@ -36,7 +36,7 @@ impl Machine {
     fn may_follow(&self, before: &[Event], put: &Event) -> bool
         requires before { AllByRecursion IsPut before.now }
         requires put { IsPut put.now }
-        ensures { MatchBool result (IsLegal self.now.graph (with_facts (facts self.now) (stated.facts before.now)) put.now) (IsLegal self.now.graph (with_facts (facts self.now) (stated.facts before.now)) put.now → ⊥) }
+        ensures { TellsWhether result (IsLegal self.now.graph (with_facts (facts self.now) (stated.facts before.now)) put.now) }
     {
         facts_are_told_apart();
         if is_repeated(before, put) {
@@ -48,7 +48,7 @@ impl Machine {
     // Whether the put is legal after what is here.
     fn may_put(&self, put: &Event) -> bool
         requires { IsPut put.now }
-        ensures { MatchBool result (IsLegal self.now.graph (facts self.now) put.now) (IsLegal self.now.graph (facts self.now) put.now → ⊥) }
+        ensures { TellsWhether result (IsLegal self.now.graph (facts self.now) put.now) }
     {
         match put {
             Event::EnvItem(addr, _) => match self.may_put_item(*addr) {
@@ -79,7 +79,7 @@ impl Machine {
 
 // Whether one of these puts is of the same item as this one, whatever its value, or of the same tag.
 fn is_repeated(before: &[Event], put: &Event) -> bool
-    ensures { MatchBool result (IsRepeated before.now put.now) (IsRepeated before.now put.now → ⊥) }
+    ensures { TellsWhether result (IsRepeated before.now put.now) }
 {
     for number in 0..before.len() {
         if are_of_one(&before[number], put) {
@@ -91,7 +91,7 @@ fn is_repeated(before: &[Event], put: &Event) -> bool
 
 // Whether both put an item at one address, or both put one tag.
 fn are_of_one(one: &Event, two: &Event) -> bool
-    ensures { MatchBool result (AreOfOne one.now two.now) (AreOfOne one.now two.now → ⊥) }
+    ensures { TellsWhether result (AreOfOne one.now two.now) }
 {
     equals_are_one();
     match (one, two) {

@@ -1,12 +1,13 @@
-ghost use Rattle.std.specs.Prelude.{◌≡◌, MatchBool, drop, true};
+ghost use Rattle.std.specs.Prelude.{◌≡◌, drop, true};
 ghost use Rattle.items.specs.Once.{IsOnceEach, is_one_of};
+ghost use Rattle.machine.specs.Machine.{TellsWhether};
 
 use instances::Tasks;
 use terms::{Inst, inst_order};
 
 /// Whether no instance is among these tasks twice. It compares each with the one before it, and if they are not in order, each with each.
 pub fn are_once(tasks: &Tasks) -> bool
-    ensures { MatchBool result (IsOnceEach tasks.now) (IsOnceEach tasks.now → ⊥) }
+    ensures { TellsWhether result (IsOnceEach tasks.now) }
 {
     if are_rising(tasks) {
         return true;

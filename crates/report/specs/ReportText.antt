@@ -1,6 +1,7 @@
 -- The report of a store, a text that its graph and its facts alone determine.
 use Rattle.std.specs.Prelude.{◌≡◌, ◌↔◌, ◌==◌, ℕ, ℤ, true, false, List, [], ◌∷◌, ◌++◌, codes, get_or, Option, Some, None}
 use Rattle.std.specs.Fmt.{decimal}
+use Rattle.std.specs.Io.KnownBytes.{Appends}
 use Rattle.std.specs.List.{flat_map, list_any}
 use Rattle.std.specs.List.Sorted.{IsStrictlySortedBy}
 use Rattle.std.specs.Ordering.{nat_cmp}
@@ -16,11 +17,16 @@ use Rattle.terms.specs.Sets.{Facts}
 use Rattle.graph.specs.Graph.{Graph}
 use Rattle.machine.specs.Counts.{AreItemsOf, AreCountsOf}
 use Rattle.machine.specs.declared.counts.Counts.{Counts}
+use Rattle.commit.specs.Core.{Core, facts, graph}
 use Rattle.report.specs.Named.{instance_text, item_text, name_of}
 
 -- a line
 abbrev pub line : List ℕ → List ℕ
 line text = text ++ codes "\n"
+
+-- one text of which this holds, about what a core has, is written after what was there
+abbrev pub WritesOf : {D : Type 0} → Core D → (Graph → Facts → List ℕ → Type 0) → Option (List ℕ) → Option (List ℕ) → Type 0
+WritesOf c Is before after = (text : List ℕ) × Is (graph c) (facts c) text × Appends before after text
 
 -- ---- items
 
@@ -41,6 +47,10 @@ AreItemsIn X (collection ∷ more) items = (first : List (Addr × ℤ)) × (rest
 -- a line for each of these items, spelled so
 abbrev pub item_lines : (Addr → ℤ → List ℕ) → List (Addr × ℤ) → List ℕ
 item_lines spelled items = flat_map (λ item. line (spelled item.0 item.1)) items
+
+-- a line for each item of these collections is written after what was there, spelled so
+abbrev pub AppendsItemsOf : Facts → List ItemCollection → (Addr → ℤ → List ℕ) → Option (List ℕ) → Option (List ℕ) → Type 0
+AppendsItemsOf X collections spelled before after = (items : List (Addr × ℤ)) × AreItemsIn X collections items × Appends before after (item_lines spelled items)
 
 -- ---- counts and faults
 

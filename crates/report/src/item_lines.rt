@@ -1,12 +1,11 @@
 //! The lines of items.
-ghost use Rattle.std.specs.Prelude.{List, map, OnOk, ℤ};
+ghost use Rattle.std.specs.Prelude.{map, OnOk};
 ghost use Rattle.std.specs.Io.KnownBytes.{Appends};
-ghost use Rattle.terms.specs.declared.name.Addr.{Addr as Address};
 ghost use Rattle.commit.specs.Core.{facts, graph};
 ghost use Rattle.report.specs.Formats.{spelled};
 ghost use Rattle.report.specs.Named.{item_text};
 ghost use Rattle.report.specs.ObjectLines.{item_object};
-ghost use Rattle.report.specs.ReportText.{AreItemsIn, item_lines, line};
+ghost use Rattle.report.specs.ReportText.{AppendsItemsOf, item_lines, line};
 ghost use Rattle.report.specs.Sinks.{TellsFailure};
 ghost use Rattle.report.specs.TableText.{row_text};
 
@@ -27,7 +26,7 @@ pub(crate) fn write_collections<D: Disk, S: Sink>(
     collections: &[(&str, ItemCollection)],
     out: &mut S,
 ) -> Result<(), SinkFailed>
-    ensures written { OnOk result ((items : List (Address × ℤ)) × AreItemsIn (facts core.now) (map (λ one. one.1) collections.now) items × Appends (S.contents out.old) (S.contents out.new) (item_lines (spelled spelling (graph core.now)) items)) }
+    ensures written { OnOk result (AppendsItemsOf (facts core.now) (map (λ one. one.1) collections.now) (spelled spelling (graph core.now)) (S.contents out.old) (S.contents out.new)) }
     ensures fails { TellsFailure S.target S.has_failed out.old out.new result }
 {
     for one in collections {

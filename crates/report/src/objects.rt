@@ -1,9 +1,9 @@
 //! The report of a store as JSON.
-ghost use Rattle.std.specs.Prelude.{List, map, OnOk, ℕ};
+ghost use Rattle.std.specs.Prelude.{map, OnOk};
 ghost use Rattle.std.specs.Io.KnownBytes.{Appends};
-ghost use Rattle.commit.specs.Core.{facts, graph};
+ghost use Rattle.commit.specs.Core.{graph};
 ghost use Rattle.report.specs.ObjectLines.{AreObjects, counts_object, fault_object};
-ghost use Rattle.report.specs.ReportText.{AreGot, fault_line, line};
+ghost use Rattle.report.specs.ReportText.{AreGot, WritesOf, fault_line, line};
 ghost use Rattle.report.specs.Sinks.{TellsFailure};
 
 use crate::components::BetweenCommas;
@@ -24,7 +24,7 @@ pub(crate) fn write_objects<D: Disk, S: Sink>(
     out: &mut S,
 ) -> Result<(), SinkFailed>
     requires { AreGot (graph core.now) (map (λ one. one.1) collections.now) }
-    ensures written { OnOk result ((text : List ℕ) × AreObjects (graph core.now) (facts core.now) text × Appends (S.contents out.old) (S.contents out.new) text) }
+    ensures written { OnOk result (WritesOf core.now AreObjects (S.contents out.old) (S.contents out.new)) }
     ensures fails { TellsFailure S.target S.has_failed out.old out.new result }
 {
     write_collections(core, Spelling::Object, collections, out)?;

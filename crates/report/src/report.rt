@@ -1,9 +1,9 @@
 //! The report of a store.
-ghost use Rattle.std.specs.Prelude.{◌≡◌, List, map, OnOk, ℕ};
+ghost use Rattle.std.specs.Prelude.{◌≡◌, map, OnOk};
 ghost use Rattle.std.specs.Io.KnownBytes.{Appends};
-ghost use Rattle.commit.specs.Core.{facts, graph};
+ghost use Rattle.commit.specs.Core.{graph};
 ghost use Rattle.report.specs.Formats.{IsReportIn};
-ghost use Rattle.report.specs.ReportText.{AreGot, IsReport, counts_text, fault_line, line, stopped_text};
+ghost use Rattle.report.specs.ReportText.{AreGot, IsReport, WritesOf, counts_text, fault_line, line, stopped_text};
 ghost use Rattle.report.specs.Sinks.{TellsFailure, TellsReport};
 ghost use Rattle.report.specs.declared.error.ReportError.TheVariants.{NoMemory};
 
@@ -63,7 +63,7 @@ fn write_lines<D: Disk, S: Sink>(
     out: &mut S,
 ) -> Result<(), SinkFailed>
     requires { AreGot (graph core.now) (map (λ one. one.1) collections.now) }
-    ensures written { OnOk result ((text : List ℕ) × IsReport (graph core.now) (facts core.now) text × Appends (S.contents out.old) (S.contents out.new) text) }
+    ensures written { OnOk result (WritesOf core.now IsReport (S.contents out.old) (S.contents out.new)) }
     ensures fails { TellsFailure S.target S.has_failed out.old out.new result }
 {
     write_collections(core, Spelling::Plain, collections, out)?;
@@ -80,7 +80,7 @@ fn write_in<D: Disk, S: Sink>(
     out: &mut S,
 ) -> Result<(), SinkFailed>
     requires { AreGot (graph core.now) (map (λ one. one.1) collections.now) }
-    ensures written { OnOk result ((text : List ℕ) × IsReportIn format (graph core.now) (facts core.now) text × Appends (S.contents out.old) (S.contents out.new) text) }
+    ensures written { OnOk result (WritesOf core.now (IsReportIn format) (S.contents out.old) (S.contents out.new)) }
     ensures fails { TellsFailure S.target S.has_failed out.old out.new result }
 {
     match format {
@@ -103,7 +103,7 @@ pub fn send_report<D: Disk, S: Sink>(
     core: &Core<D>,
     out: &mut S,
 ) -> Result<(), ReportError>
-    ensures written { OnOk result ((text : List ℕ) × IsReport (graph core.now) (facts core.now) text × Appends (S.contents out.old) (S.contents out.new) text) }
+    ensures written { OnOk result (WritesOf core.now IsReport (S.contents out.old) (S.contents out.new)) }
     ensures fails { TellsReport S.target S.has_failed out.old out.new result }
     ensures unwritten { result ≡ Err NoMemory → S.contents out.new ≡ S.contents out.old }
 {
@@ -123,7 +123,7 @@ pub fn send_report_in<D: Disk, S: Sink>(
     format: Format,
     out: &mut S,
 ) -> Result<(), ReportError>
-    ensures written { OnOk result ((text : List ℕ) × IsReportIn format (graph core.now) (facts core.now) text × Appends (S.contents out.old) (S.contents out.new) text) }
+    ensures written { OnOk result (WritesOf core.now (IsReportIn format) (S.contents out.old) (S.contents out.new)) }
     ensures fails { TellsReport S.target S.has_failed out.old out.new result }
     ensures unwritten { result ≡ Err NoMemory → S.contents out.new ≡ S.contents out.old }
 {
@@ -142,7 +142,7 @@ pub fn write_report<D: Disk, W: Write>(
     core: &Core<D>,
     out: &mut W,
 ) -> Result<(), ReportError>
-    ensures { OnOk result ((text : List ℕ) × IsReport (graph core.now) (facts core.now) text × Appends (W.contents out.old) (W.contents out.new) text) }
+    ensures { OnOk result (WritesOf core.now IsReport (W.contents out.old) (W.contents out.new)) }
 {
     write_report_in(alloc, core, Format::Text, out)
 }
@@ -154,7 +154,7 @@ pub fn write_report_in<D: Disk, W: Write>(
     format: Format,
     out: &mut W,
 ) -> Result<(), ReportError>
-    ensures { OnOk result ((text : List ℕ) × IsReportIn format (graph core.now) (facts core.now) text × Appends (W.contents out.old) (W.contents out.new) text) }
+    ensures { OnOk result (WritesOf core.now (IsReportIn format) (W.contents out.old) (W.contents out.new)) }
 {
     let mut sink = WriterSink { out, failed: false };
     let sent = send_report_in(alloc, core, format, &mut sink);

@@ -1,8 +1,8 @@
 //! The items of a store as a table.
-ghost use Rattle.std.specs.Prelude.{◌≡◌, List, map, OnOk, ℕ};
+ghost use Rattle.std.specs.Prelude.{◌≡◌, map, OnOk};
 ghost use Rattle.std.specs.Io.KnownBytes.{Appends};
-ghost use Rattle.commit.specs.Core.{facts, graph};
-ghost use Rattle.report.specs.ReportText.{AreGot, line};
+ghost use Rattle.commit.specs.Core.{graph};
+ghost use Rattle.report.specs.ReportText.{AreGot, WritesOf, line};
 ghost use Rattle.report.specs.Sinks.{TellsFailure};
 ghost use Rattle.report.specs.TableText.{IsTable, components_of, header, most_components};
 
@@ -22,7 +22,7 @@ pub(crate) fn write_table<D: Disk, S: Sink>(
     out: &mut S,
 ) -> Result<(), SinkFailed>
     requires { AreGot (graph core.now) (map (λ one. one.1) collections.now) }
-    ensures written { OnOk result ((text : List ℕ) × IsTable (graph core.now) (facts core.now) text × Appends (S.contents out.old) (S.contents out.new) text) }
+    ensures written { OnOk result (WritesOf core.now IsTable (S.contents out.old) (S.contents out.new)) }
     ensures fails { TellsFailure S.target S.has_failed out.old out.new result }
 {
     let columns = most_components(core.graph(), collections);

@@ -1,5 +1,7 @@
 -- How what is held grows by what is put.
 use Rattle.std.specs.Prelude.{◌≡◌, ⊤, List, ◌++◌}
+use Rattle.std.specs.List.{AllByRecursion}
+use Rattle.terms.specs.declared.name.Inst.{Inst}
 use Rattle.terms.specs.declared.event.Event.{Event}
 use Rattle.terms.specs.declared.put.Put.{Put}
 use Rattle.terms.specs.declared.put.Put.TheVariants as put
@@ -8,7 +10,7 @@ use Rattle.terms.specs.Sets.{Facts, among}
 use Rattle.holdings.specs.Holdings.{Holdings, image_of}
 use Rattle.codec.specs.Image.{image_facts, image_environment}
 use Rattle.graph.specs.Graph.{Graph}
-use Rattle.graph.specs.Fits.{IsAbsent, PutIsOf}
+use Rattle.graph.specs.Fits.{AreNew, IsAbsent, MayEnd, PutIsOf}
 
 -- as sets, the new list is the old one and these facts
 pub record AlsoHas (stated old new : List Fact) : Type 0 where
@@ -32,3 +34,7 @@ IsFree X (put.Tag name) = ⊤
 -- a put of the graph whose item, if it is one, is absent
 abbrev pub PutFits : Graph → Facts → Put → Type 0
 PutFits g X one = PutIsOf g one × IsFree X one
+
+-- an instance may end with these puts: they are of the graph, and new
+abbrev pub EndFits : Graph → Facts → Inst → List Put → Type 0
+EndFits g X instance puts = MayEnd g X instance × AllByRecursion (PutIsOf g) puts × AreNew X puts

@@ -6,9 +6,9 @@ use Rattle.terms.specs.Facts.{Fact, facts, environment}
 use Rattle.terms.specs.Sets.{among}
 use Rattle.codec.specs.declared.image.Image.{Image}
 use Rattle.codec.specs.Commits.{commit_bytes, IsCommit}
-use Rattle.codec.specs.Spelling.{SpellsImage, HasPutNumber}
+use Rattle.codec.specs.Spelling.{SpellsImage}
 use Rattle.codec.specs.Image.{image_facts, image_environment, facts_in, environment_in}
-use Rattle.holdings.specs.Holdings.{Holdings, IsFor, image_of}
+use Rattle.holdings.specs.Holdings.{HavePutNumbers, Holdings, IsFor, image_of}
 use Rattle.journal.specs.Records.{StandsFor, records}
 use Rattle.graph.specs.Graph.{Graph}
 use Rattle.graph.specs.Canonical.{canonical}
@@ -69,5 +69,5 @@ pub record IsRead (bytes : List ℕ) (generation : ℕ) (standing : Standing) : 
   pub starts : standing.start ≡ start_of is_side
   pub ends : standing.end ≡ end_of is_side
   pub text : standing.text.items ≡ canonical standing.graph
-  pub numbered : AllByRecursion HasPutNumber (image_of standing.holdings).items
+  pub numbered : HavePutNumbers standing.holdings
   pub collections : IsFor standing.graph standing.holdings

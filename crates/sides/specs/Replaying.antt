@@ -6,9 +6,8 @@ use Rattle.terms.specs.Facts.{Fact, facts, environment}
 use Rattle.terms.specs.Sets.{among}
 use Rattle.codec.specs.declared.image.Image.{Image}
 use Rattle.codec.specs.Commits.{commit_bytes, IsCommit, SpellsCommit}
-use Rattle.codec.specs.Spelling.{HasPutNumber}
 use Rattle.codec.specs.Image.{image_facts, image_environment, facts_in, environment_in}
-use Rattle.holdings.specs.Holdings.{Holdings, image_of}
+use Rattle.holdings.specs.Holdings.{HavePutNumbers, Holdings, image_of}
 use Rattle.journal.specs.WholeRecords.{LeadsTo}
 use Rattle.graph.specs.Graph.{Graph}
 use Rattle.graph.specs.Fits.{AllFit}
@@ -46,7 +45,7 @@ Replays g old new bytes (Broken place) = (commits : List Commit) → AreCommits 
 
 -- where all were taken, the puts that are held have numbers that a put may have
 abbrev pub IsNumbered : Holdings → Replay → Type 0
-IsNumbered new (Ended end) = AllByRecursion HasPutNumber (image_of new).items
+IsNumbered new (Ended end) = HavePutNumbers new
 IsNumbered new (Broken place) = ⊤
 
 -- the position of the result lies among the bytes, or at their end

@@ -1,11 +1,9 @@
 //! The parts of a side before its journal. A missing part is no error here: the functions return `None`.
 ghost use Rattle.std.specs.Prelude.{◌≡◌, ◌≤◌, length, IfOk, IfSome, MatchOption};
-ghost use Rattle.std.specs.List.{AllByRecursion};
 ghost use Rattle.codec.specs.declared.image.Image.{Image as Listed};
-ghost use Rattle.codec.specs.Spelling.{HasPutNumber};
 ghost use Rattle.graph.specs.Canonical.{canonical};
 ghost use Rattle.graph.specs.Graph.{Graph as Meant};
-ghost use Rattle.holdings.specs.Holdings.{IsFor, image_of};
+ghost use Rattle.holdings.specs.Holdings.{HavePutNumbers, IsFor, image_of};
 ghost use Rattle.sides.specs.Reading.{IsCountedAt, HasNoneAt, IsTextOf, IsImageOf};
 
 use crate::fitting::fits;
@@ -63,7 +61,7 @@ pub(crate) fn read_image(
     bytes: &[u8],
 ) -> Result<Option<Holdings>, AllocError>
     ensures image { IfOk result (λ found. MatchOption found ((image : Listed) → IsImageOf graph.now bytes.now image → ⊥) (λ holdings. IsImageOf graph.now bytes.now (image_of holdings))) }
-    ensures numbered { IfOk result (λ found. IfSome found (λ holdings. AllByRecursion HasPutNumber (image_of holdings).items)) }
+    ensures numbered { IfOk result (λ found. IfSome found (λ holdings. HavePutNumbers holdings)) }
     ensures collections { IfOk result (λ found. IfSome found (IsFor graph.now)) }
 {
     spellings_of_images(MAX_COMPONENTS);

@@ -1,7 +1,5 @@
 ghost use Rattle.std.specs.Prelude.{◌≡◌, false, IsTrue, IfOk};
-ghost use Rattle.std.specs.List.{AllByRecursion};
-ghost use Rattle.codec.specs.Spelling.{HasPutNumber};
-ghost use Rattle.holdings.specs.Holdings.{IsFor, image_of};
+ghost use Rattle.holdings.specs.Holdings.{HavePutNumbers, IsFor, image_of};
 ghost use Rattle.sides.specs.Replaying.{IsTaken, IsRefused, Replays, IsNumbered, IsWithin};
 
 use crate::taking::take_all;
@@ -28,7 +26,7 @@ pub(crate) fn take_commits(
     holdings: &mut Holdings,
     journal: &[u8],
 ) -> Result<Replay, AllocError>
-    requires numbered { AllByRecursion HasPutNumber (image_of holdings.old).items }
+    requires numbered { HavePutNumbers holdings.old }
     requires collections { IsFor graph.now holdings.old }
     ensures commits { IfOk result (Replays graph.now holdings.old holdings.new journal.now) }
     ensures within { IfOk result (IsWithin journal.now) }
@@ -64,11 +62,11 @@ fn take_commit(
     payload: &[u8],
     hints: &mut Hints,
 ) -> Result<bool, AllocError>
-    requires numbered { AllByRecursion HasPutNumber (image_of holdings.old).items }
+    requires numbered { HavePutNumbers holdings.old }
     requires collections { IsFor graph.now holdings.old }
     ensures taken { IfOk result (λ taken. IsTrue taken → IsTaken graph.now holdings.old holdings.new payload.now) }
     ensures refused { IfOk result (λ taken. taken ≡ false → IsRefused graph.now (image_of holdings.old) payload.now) }
-    ensures numbered { IfOk result (λ taken. IsTrue taken → AllByRecursion HasPutNumber (image_of holdings.new).items) }
+    ensures numbered { IfOk result (λ taken. IsTrue taken → HavePutNumbers holdings.new) }
 {
     spellings_of_commits(MAX_COMPONENTS);
     match decode_payload(alloc, payload, MAX_COMPONENTS, commit) {

@@ -1,12 +1,12 @@
 ghost use Rattle.std.specs.Prelude.{◌≡◌, ◌↔◌, ◌≤◌, ◌<◌, IsTrue, IfOk, [], ◌∷◌, length, false, None};
 ghost use Rattle.std.specs.List.{AllByRecursion};
 ghost use Rattle.terms.specs.Facts.{tag, item, done, bad, put_fact, put_facts, facts, environment};
-ghost use Rattle.codec.specs.Spelling.{HasPutNumber, IsNumbered, HasFewPuts};
+ghost use Rattle.codec.specs.Spelling.{IsNumbered, HasFewPuts};
 ghost use Rattle.codec.specs.Image.{image_facts, facts_in, environment_item, environment_tag};
 ghost use Rattle.terms.specs.declared.put.TheConstants.{MOST_PUTS};
 ghost use Rattle.graph.specs.Fits.{AllFit, Fits, FitsAs, MayEnd, AreNew, IsAbsent, PutIsOf};
-ghost use Rattle.holdings.specs.Holdings.{IsFor, image_of};
-ghost use Rattle.sides.specs.Growth.{Grows, IsGrownBy, PutFits};
+ghost use Rattle.holdings.specs.Holdings.{HavePutNumbers, IsFor, image_of};
+ghost use Rattle.sides.specs.Growth.{EndFits, Grows, IsGrownBy, PutFits};
 
 use crate::fitting::{is_done, is_prescribed};
 use graph::{Graph, fitting};
@@ -26,7 +26,7 @@ pub(crate) fn take_all(
     requires collections { IsFor graph.now holdings.old }
     ensures fits { IfOk result (λ taken. IsTrue taken ↔ AllFit graph.now (image_facts (image_of holdings.old)) events.now) }
     ensures grown { IfOk result (λ taken. IsTrue taken → Grows (environment events.now) (facts events.now) holdings.old holdings.new) }
-    ensures numbered { AllByRecursion HasPutNumber (image_of holdings.old).items → IfOk result (λ taken. IsTrue taken → AllByRecursion HasPutNumber (image_of holdings.new).items) }
+    ensures numbered { HavePutNumbers holdings.old → IfOk result (λ taken. IsTrue taken → HavePutNumbers holdings.new) }
 {
     facts_are_told_apart();
     facts_go_on();
@@ -51,7 +51,7 @@ fn take(
     requires collections { IsFor graph.now holdings.old }
     ensures fits { IfOk result (λ taken. IsTrue taken ↔ Fits graph.now (facts_in (image_of holdings.old)) event.now) }
     ensures grown { IfOk result (λ taken. IsTrue taken → IsGrownBy event.now holdings.old holdings.new) }
-    ensures numbered { AllByRecursion HasPutNumber (image_of holdings.old).items → IfOk result (λ taken. IsTrue taken → AllByRecursion HasPutNumber (image_of holdings.new).items) }
+    ensures numbered { HavePutNumbers holdings.old → IfOk result (λ taken. IsTrue taken → HavePutNumbers holdings.new) }
 {
     facts_are_told_apart();
     images_of_maps();
@@ -82,7 +82,7 @@ fn take_item(
     requires { IsFor graph.now holdings.old }
     ensures fits { IfOk result (λ taken. IsTrue taken ↔ FitsAs graph.now (facts_in (image_of holdings.old)) (Event.EnvItem address.now value)) }
     ensures grown { IfOk result (λ taken. IsTrue taken → IsGrownBy (Event.EnvItem address.now value) holdings.old holdings.new) }
-    ensures numbered { AllByRecursion HasPutNumber (image_of holdings.old).items → IfOk result (λ taken. IsTrue taken → AllByRecursion HasPutNumber (image_of holdings.new).items) }
+    ensures numbered { HavePutNumbers holdings.old → IfOk result (λ taken. IsTrue taken → HavePutNumbers holdings.new) }
 {
     if !graph.environment_puts_item(address) {
         return Ok(false);
@@ -113,9 +113,9 @@ fn take_end(
 ) -> Result<bool, AllocError>
     requires few { length puts.now ≤ MOST_PUTS }
     requires collections { IsFor graph.now holdings.old }
-    ensures fits { IfOk result (λ taken. IsTrue taken ↔ (MayEnd graph.now (facts_in (image_of holdings.old)) instance.now × AllByRecursion (PutIsOf graph.now) puts.now × AreNew (facts_in (image_of holdings.old)) puts.now)) }
+    ensures fits { IfOk result (λ taken. IsTrue taken ↔ EndFits graph.now (facts_in (image_of holdings.old)) instance.now puts.now) }
     ensures grown { IfOk result (λ taken. IsTrue taken → Grows [] (done instance.now ∷ put_facts instance.now 0 puts.now) holdings.old holdings.new) }
-    ensures numbered { AllByRecursion HasPutNumber (image_of holdings.old).items → IfOk result (λ taken. IsTrue taken → AllByRecursion HasPutNumber (image_of holdings.new).items) }
+    ensures numbered { HavePutNumbers holdings.old → IfOk result (λ taken. IsTrue taken → HavePutNumbers holdings.new) }
 {
     facts_are_told_apart();
     images_of_maps();
@@ -171,7 +171,7 @@ fn take_puts(
     requires collections { IsFor graph.now holdings.old }
     ensures fits { IfOk result (λ taken. IsTrue taken ↔ (AllByRecursion (PutIsOf graph.now) puts.now × AreNew (facts_in (image_of holdings.old)) puts.now)) }
     ensures grown { IfOk result (λ taken. IsTrue taken → Grows [] (put_facts instance.now 0 puts.now) holdings.old holdings.new) }
-    ensures numbered { AllByRecursion HasPutNumber (image_of holdings.old).items → IfOk result (λ taken. IsTrue taken → AllByRecursion HasPutNumber (image_of holdings.new).items) }
+    ensures numbered { HavePutNumbers holdings.old → IfOk result (λ taken. IsTrue taken → HavePutNumbers holdings.new) }
 {
     facts_are_told_apart();
     for (number, put) in puts.iter().enumerate() {
@@ -193,7 +193,7 @@ fn take_put(
     requires { IsFor graph.now holdings.old }
     ensures fits { IfOk result (λ taken. IsTrue taken ↔ PutFits graph.now (facts_in (image_of holdings.old)) put.now) }
     ensures grown { IfOk result (λ taken. IsTrue taken → Grows [] (put_fact instance.now number put.now ∷ []) holdings.old holdings.new) }
-    ensures numbered { AllByRecursion HasPutNumber (image_of holdings.old).items → number < MOST_PUTS → IfOk result (λ taken. IsTrue taken → AllByRecursion HasPutNumber (image_of holdings.new).items) }
+    ensures numbered { HavePutNumbers holdings.old → number < MOST_PUTS → IfOk result (λ taken. IsTrue taken → HavePutNumbers holdings.new) }
 {
     match put {
         Put::Item(address, value) => {
@@ -222,7 +222,7 @@ fn hold_item(
     requires { address.now.collection.0 < holdings.old.counts.items }
     ensures free { IfOk result (λ free. IsTrue free ↔ IsAbsent (facts_in (image_of holdings.old)) address.now) }
     ensures grown { IfOk result (λ free. IsTrue free → Grows (environment_item address.now value by) (item address.now value by ∷ []) holdings.old holdings.new) }
-    ensures numbered { AllByRecursion HasPutNumber (image_of holdings.old).items → IsNumbered by → IfOk result (λ free. IsTrue free → AllByRecursion HasPutNumber (image_of holdings.new).items) }
+    ensures numbered { HavePutNumbers holdings.old → IsNumbered by → IfOk result (λ free. IsTrue free → HavePutNumbers holdings.new) }
 {
     facts_are_told_apart();
     images_of_maps();

@@ -1,13 +1,12 @@
 -- Which fault of the heads an opening returns.
 use Rattle.std.proofs.Common.{◌≡◌, inl, inr, ℕ, List, length, sym, ap, ◌∙◌, arith, refl, subst}
 use Rattle.std.specs.Prelude.{Option, Some, None, Result, Ok, Err, IsErrOf, IsErrAnd}
-use Rattle.disk.specs.declared.side.Side.{Side}
 use Rattle.disk.specs.declared.side.Side.TheVariants.{A, B}
 use Rattle.disk.specs.Time.{Contents}
 use Rattle.sides.specs.Side.{IsOpen, HasGeneration}
 use Rattle.vault.specs.declared.error.VaultError.{VaultError}
 use Rattle.vault.specs.declared.error.VaultError.TheVariants.{Damaged, NotAStore}
-use Rattle.vault.specs.Opened.{IsGenerationOf, IsCutShort, HeadsFault}
+use Rattle.vault.specs.Opened.{HeadsFault, IsCutShort, IsGenerationOf, SaysCutShort}
 use Rattle.vault.proofs.OpenedHeads.{opens}
 
 -- a side that is closed, or has a generation, is not short
@@ -20,22 +19,18 @@ pub closed_none : (o : Option ℕ) (bytes : List ℕ) → IsGenerationOf o bytes
 closed_none None bytes closed none = refl
 closed_none (Some n) bytes has none = absurd (none (opens bytes n has).0)
 
--- the side is too short to have a generation, and the error says so
-abbrev pub TellsOne : Side → List ℕ → VaultError → Type 0
-TellsOne side bytes error = IsCutShort bytes × (error ≡ Damaged side (length bytes))
-
 module _ (contents : Contents) (fault error : VaultError) where
   -- if A is short, the error is the fault of the heads
-  pub a_is_told : HeadsFault contents fault → TellsOne A (contents A) error → error ≡ fault
+  pub a_is_told : HeadsFault contents fault → SaysCutShort A (contents A) error → error ≡ fault
   a_is_told (inl first) it = it.1 ∙ sym first.1
   a_is_told (inr (inl second)) it = absurd (second.0 it.0)
   a_is_told (inr (inr (inl third))) it = absurd (not_short (Some third.0.0) (contents A) third.0.1 it.0)
   a_is_told (inr (inr (inr none))) it = absurd (none.0 A it.0.0)
 
   -- if B is short, and A is not, it is too
-  pub b_is_told : (IsCutShort (contents A) → ⊥) → HeadsFault contents fault → TellsOne B (contents B) error → error ≡ fault
+  pub b_is_told : (IsCutShort (contents A) → ⊥) → HeadsFault contents fault → SaysCutShort B (contents B) error → error ≡ fault
   b_is_told long (inl first) it = absurd (long first.0)
-  b_is_told long (inr (inl second)) it = it.1 ∙ sym second.2
+  b_is_told long (inr (inl second)) it = it.1 ∙ sym second.1.1
   b_is_told long (inr (inr (inl third))) it = absurd (not_short (Some third.0.0) (contents B) third.0.2 it.0)
   b_is_told long (inr (inr (inr none))) it = absurd (none.0 B it.0.0)
 
@@ -44,7 +39,7 @@ pub both_are_told : {T : Type 0} (result : Result T VaultError) (contents : Cont
     → ((generation : ℕ) → HasGeneration (contents A) generation → HasGeneration (contents B) generation → IsErrOf result (Damaged A 2)) → (a ≡ None → b ≡ None → IsErrOf result NotAStore)
     → HeadsFault contents fault → IsErrOf result fault
 both_are_told result contents a b fault of_a of_b alike closed (inl first) = absurd (not_short a (contents A) of_a first.0)
-both_are_told result contents a b fault of_a of_b alike closed (inr (inl second)) = absurd (not_short b (contents B) of_b second.1)
+both_are_told result contents a b fault of_a of_b alike closed (inr (inl second)) = absurd (not_short b (contents B) of_b second.1.0)
 both_are_told result contents a b fault of_a of_b alike closed (inr (inr (inl third))) = subst (λ (it : VaultError). IsErrOf result it) (sym third.1) (alike third.0.0 third.0.1 third.0.2)
 both_are_told result contents a b fault of_a of_b alike closed (inr (inr (inr none))) =
     subst (λ (it : VaultError). IsErrOf result it) (sym none.1) (closed (closed_none a (contents A) of_a (none.0 A)) (closed_none b (contents B) of_b (none.0 B)))

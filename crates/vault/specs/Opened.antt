@@ -1,6 +1,5 @@
 -- What opening finds of a store's files, and what it leaves of them.
 use Rattle.std.specs.Prelude.{◌≡◌, ◌≢◌, ◌⊎◌, ℕ, List, length, Option, Some, None, Result, IfErr, IsErrOf}
-use Rattle.std.specs.List.{AllByRecursion}
 use Rattle.disk.specs.declared.side.Side.{Side}
 use Rattle.disk.specs.declared.side.Side.TheVariants.{A, B}
 use Rattle.disk.specs.File.{File}
@@ -11,8 +10,7 @@ use Rattle.terms.specs.Sets.{Facts}
 use Rattle.graph.specs.Graph.{Graph}
 use Rattle.graph.specs.Canonical.{canonical}
 use Rattle.codec.specs.Image.{facts_in, environment_in}
-use Rattle.codec.specs.Spelling.{HasPutNumber}
-use Rattle.holdings.specs.Holdings.{Holdings, IsFor, image_of}
+use Rattle.holdings.specs.Holdings.{HavePutNumbers, Holdings, IsFor, image_of}
 use Rattle.graph.specs.Fits.{FitsState, HasOneItemEach}
 use Rattle.sides.specs.declared.gate.Gate.TheVariants.{Short}
 use Rattle.sides.specs.Reading.{Tells}
@@ -52,6 +50,10 @@ pub record IsAhead (contents : Contents) (side : Side) : Type 0 where
 abbrev pub IsCutShort : List ℕ → Type 0
 IsCutShort bytes = Tells Short bytes
 
+-- the file of this side is cut short, and the error is damage of it, at its length
+abbrev pub SaysCutShort : Side → List ℕ → VaultError → Type 0
+SaysCutShort side bytes error = IsCutShort bytes × (error ≡ Damaged side (length bytes))
+
 -- both sides are open, with one generation
 abbrev pub AreOfOneGeneration : Contents → Type 0
 AreOfOneGeneration contents = (generation : ℕ) × HasGeneration (contents A) generation × HasGeneration (contents B) generation
@@ -68,8 +70,8 @@ NoneIsOpen contents = (side : Side) → IsOpen (contents side) → ⊥
 -- Both have one generation: damage of A, at 2, where its generation begins. None is open: there is no store.
 abbrev pub HeadsFault : Contents → VaultError → Type 0
 HeadsFault contents error =
-    (IsCutShort (contents A) × (error ≡ Damaged A (length (contents A))))
-    ⊎ ((IsCutShort (contents A) → ⊥) × IsCutShort (contents B) × (error ≡ Damaged B (length (contents B))))
+    SaysCutShort A (contents A) error
+    ⊎ ((IsCutShort (contents A) → ⊥) × SaysCutShort B (contents B) error)
     ⊎ (AreOfOneGeneration contents × (error ≡ Damaged A 2))
     ⊎ (NoneIsOpen contents × (error ≡ NotAStore))
 
@@ -87,7 +89,7 @@ pub record IsSound (g : Graph) (held : Holdings) (generation end : ℕ) (text : 
   pub is_side : IsSide bytes g generation (environment_in (image_of held)) (facts_in (image_of held))
   pub ends : end ≡ end_of is_side
   pub text_is : text ≡ canonical g
-  pub numbered : AllByRecursion HasPutNumber (image_of held).items
+  pub numbered : HavePutNumbers held
   pub collections : IsFor g held
   pub fits : FitsState g (environment_in (image_of held)) (facts_in (image_of held))
   pub one_item : HasOneItemEach (facts_in (image_of held))

@@ -6,7 +6,7 @@ ghost use Rattle.disk.specs.Time.{Contents};
 ghost use Rattle.sides.specs.Reading.{Tells};
 ghost use Rattle.sides.specs.Side.{HasGeneration};
 ghost use Rattle.vault.specs.Store.{SaysNothing};
-ghost use Rattle.vault.specs.Opened.{OnlyReads, IsGenerationOf, IsAhead, IsCutShort, AreOfOneGeneration, HeadsFault, StandsForNothing, NoneIsOpen, IsOfOpening, contents_of};
+ghost use Rattle.vault.specs.Opened.{OnlyReads, IsGenerationOf, IsAhead, AreOfOneGeneration, HeadsFault, StandsForNothing, NoneIsOpen, IsOfOpening, contents_of, SaysCutShort};
 ghost use Rattle.vault.specs.declared.error.VaultError.{VaultError as Cause};
 ghost use Rattle.vault.specs.declared.error.VaultError.TheVariants.{Device, NoMemory, NotAStore, Damaged};
 
@@ -37,8 +37,8 @@ pub(crate) fn live_side<D: Disk>(disk: &mut D) -> Result<Side, VaultError>
 fn generation_of<D: Disk>(disk: &mut D, side: Side) -> Result<Option<u64>, VaultError>
     ensures generation { IsTrue D.is_honest → IfOk result (λ generation. IsGenerationOf generation (D.files disk.old side).content) }
     ensures nothing { IsTrue D.is_honest → IfErr result (λ error. SaysNothing error → StandsForNothing (contents_of (D.files disk.old))) }
-    ensures told { IsTrue D.is_honest → IfErr result (λ error. SaysNothing error → IsCutShort (D.files disk.old side).content × (error ≡ Damaged side (length (D.files disk.old side).content))) }
-    ensures short { IsTrue D.is_honest → IfErr result (λ error. Errs D.Disk disk.old disk.new ⊎ (IsCutShort (D.files disk.old side).content × (error ≡ Damaged side (length (D.files disk.old side).content)))) }
+    ensures told { IsTrue D.is_honest → IfErr result (λ error. SaysNothing error → SaysCutShort side (D.files disk.old side).content error) }
+    ensures short { IsTrue D.is_honest → IfErr result (λ error. Errs D.Disk disk.old disk.new ⊎ SaysCutShort side (D.files disk.old side).content error) }
     ensures same { IsTrue D.is_honest → (each : Side) → D.files disk.new each ≡ D.files disk.old each }
     ensures only_reads { IsTrue D.is_honest → OnlyReads D.Disk disk.old disk.new }
     ensures others { IfErr result IsOfOpening }

@@ -2,11 +2,11 @@ use Rattle.std.proofs.Common.{inl, inr, subst}
 use Rattle.std.proofs.lemmas.Result.{IfErr-weaker}
 use Rattle.disk.specs.declared.side.Side.TheVariants.{A, B}
 use Rattle.disk.specs.File.{File}
-use Rattle.vault.specs.Opened.{IsGenerationOf, StandsForNothing, contents_of}
+use Rattle.vault.specs.Opened.{IsGenerationOf, SaysCutShort, StandsForNothing, contents_of}
 use Rattle.vault.proofs.OpenedCalls.{then_reads, same_contents}
 use Rattle.vault.proofs.ErredCalls.{erred_behind, none_refused}
 use Rattle.vault.proofs.OpenedErrors.{handed_on}
-use Rattle.vault.proofs.HeadsFaults.{TellsOne, not_short, a_is_told, b_is_told, both_are_told, told_on}
+use Rattle.vault.proofs.HeadsFaults.{not_short, a_is_told, b_is_told, both_are_told, told_on}
 use Rattle.vault.proofs.heads.live_side.Goals as goal
 
 pub returns-in_err-a-clause-nothing : goal.returns-in_err-a-clause-nothing
@@ -48,7 +48,7 @@ returns-in_err-b-clause-heads g c honest fault is =
       | inl erred ↦ inr (erred_behind g.D.Disk.failures g.D.Disk.refusals c.args.disk.now c.generation_of.new.disk c.generation_of-2.new.disk c.in_ok-a.ensures.causes.later
           (none_refused g.D.Disk.failures g.D.Disk.refusals c.args.disk.now c.generation_of.new.disk c.in_ok-a.a c.in_ok-a.ensures.causes) erred)
       | inr it ↦ inl (told_on c.in_err-b.field-0.0 fault c.from_residual-in_err-b.result c.from_residual-in_err-b.ensures.1
-          (b_is_told contents fault _ (not_short c.in_ok-a.a (contents A) (c.in_ok-a.ensures.generation honest)) is (subst (λ (f : File). TellsOne B f.content c.in_err-b.field-0.0) same it)))
+          (b_is_told contents fault _ (not_short c.in_ok-a.a (contents A) (c.in_ok-a.ensures.generation honest)) is (subst (λ (f : File). SaysCutShort B f.content c.in_err-b.field-0.0) same it)))
     ]
 
 pub returns-clause-heads : goal.returns-clause-heads
@@ -67,8 +67,8 @@ returns-in_err-b-clause-cause g c honest =
     let contents = contents_of (g.D.Disk.files c.args.disk.now) in
     let same = c.generation_of.ensures.same honest B in
     handed_on _ c.in_err-b.field-0.0 c.from_residual-in_err-b.result c.from_residual-in_err-b.ensures.1 (λ says.
-    let it = subst (λ (f : File). TellsOne B f.content c.in_err-b.field-0.0) same (c.in_err-b.ensures.told honest says) in
-    inr (inl (not_short c.in_ok-a.a (contents A) (c.in_ok-a.ensures.generation honest), it.0, it.1)))
+    let it = subst (λ (f : File). SaysCutShort B f.content c.in_err-b.field-0.0) same (c.in_err-b.ensures.told honest says) in
+    inr (inl (not_short c.in_ok-a.a (contents A) (c.in_ok-a.ensures.generation honest), it)))
 
 pub returns-clause-cause : goal.returns-clause-cause
 returns-clause-cause g c honest =
