@@ -13,7 +13,7 @@ use Rattle.commit.specs.declared.error.CoreError.{CoreError}
 use Rattle.commit.specs.Core.{Core, state_of}
 use Rattle.commit.specs.Core as core
 use Rattle.commit.proofs.Ran.{instance_is_of}
-use Rattle.commit.specs.Steps.{MayClaim, Moves, Claims}
+use Rattle.commit.specs.Steps.{Claims}
 use Rattle.passes.specs.Known.{Known, Made, Desk, commits}
 use Rattle.passes.specs.Opening.{Opening}
 use Rattle.hub.specs.Opening.{facts_behind, IsBehind}
@@ -60,7 +60,3 @@ pub may_run : {D : Type 0} (opening : Opening) (history : List Made) (before now
 may_run opening history before now at old new (Ok None) kept behind shows claims = tt
 may_run opening history before now at old new (Ok (Some task)) kept behind shows claims = may_run_one opening history before now old task kept behind shows claims.claimed.0.working claims.claimed.1
 may_run opening history before now at old new (Err error) kept behind shows claims = tt
-
-pub moves_claimed : {D : Type 0} (old new : Core D) (at : ℕ) (claimed : Option Inst) (task : Inst) → claimed ≡ Some task
-    → IfSome claimed (λ one. MayClaim old at × (state_of old one ≡ Some state.Ready) × Moves old new one state.Running) → Moves old new task state.Running
-moves_claimed old new at claimed task is all = (subst (λ (some : Option Inst). IfSome some (λ one. MayClaim old at × (state_of old one ≡ Some state.Ready) × Moves old new one state.Running)) is all).2

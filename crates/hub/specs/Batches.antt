@@ -1,5 +1,6 @@
 -- What a call with a batch promises: several ends of instances that are committed together.
 use Rattle.std.specs.Prelude.{◌≡◌, ◌≤◌, ◌+◌, ⊤, ℕ, List, Option, Some, None, Result, Ok, Err, IfOk, IfErr, OnOk}
+use Rattle.disk.specs.declared.storage.Disk.{Ghosts}
 use Rattle.terms.specs.declared.name.Inst.{Inst}
 use Rattle.terms.specs.declared.event.Event.{Event}
 use Rattle.terms.specs.Sets.{Facts}
@@ -12,7 +13,7 @@ use Rattle.machine.specs.Machine.{RefusesEnd}
 use Rattle.vault.specs.declared.error.VaultError.TheVariants as vault
 use Rattle.commit.specs.declared.error.CoreError.{CoreError}
 use Rattle.commit.specs.declared.error.CoreError.TheVariants.{Refused, Store}
-use Rattle.commit.specs.Batch.{Batch}
+use Rattle.commit.specs.Batch.{Batch, EndsAll, ends_said}
 use Rattle.commit.specs.Calls.{commit_length}
 use Rattle.commit.specs.Core.{Core}
 use Rattle.hub.specs.declared.error.BatchError.{BatchError}
@@ -39,6 +40,15 @@ pub record IsForeignBatch {D : Type 0} (old new : Kept D) (batch back : Batch) :
 pub record AreMade {D : Type 0} (old : Kept D) (tasks : List Inst) (does : Type 0) : Type 0 where
   pub running : AreRunning old.core.machine tasks
   pub call : does
+
+-- The core's call with a batch is made and ends as it says; or the batch comes back, and nothing has changed.
+abbrev pub FinishesAll : {D : Type 0} → Ghosts D → Kept D → Kept D → Batch → Result Ended BatchError → Type 0
+FinishesAll storage old new batch result =
+    OnBatch result (IsForeignBatch old new batch) (λ answer. AreMade old batch.tasks (EndsAll storage old.core new.core batch.tasks (ends_said batch) answer))
+
+-- the batch comes back, or the core's call is refused for one of these causes
+abbrev pub RefusesBatch : Batch → (CoreError → Type 0) → Result Ended BatchError → Type 0
+RefusesBatch batch why result = OnBatch result (λ back. back ≡ batch) (λ answer. IfErr answer why)
 
 -- what comes of these ends, as far as the answer says they come together, was added after all that was seen before, and is the pass's own
 pub record AddsTogether (opening : Opening) (ends : List Event) (old new : Known) (ended : Ended) : Type 0 where

@@ -17,6 +17,8 @@ use Rattle.commit.specs.Calls.{record_length}
 use Rattle.journal.specs.declared.journal.TheConstants.{LIMIT}
 use Rattle.passes.specs.Known.{Known, count_of}
 use Rattle.passes.specs.Opening.{Opening}
+use Rattle.passes.specs.Visits.{Shows}
+use Rattle.hub.specs.Kept.{Kept}
 use Rattle.hub.specs.Opening.{end_behind, facts_behind, AreLegalBehind}
 
 -- ---- what is seen
@@ -38,6 +40,10 @@ pub record Adds (commit : Commit) (old new : Known) : Type 0 where
 -- nothing was made with it
 abbrev pub AddsNothing : Known → Known → Type 0
 AddsNothing old new = new.mine ≡ old.mine
+
+-- no commit was made: the history is as it was, the pass has seen all of it, and nothing was made with the pass
+abbrev pub AddsNoCommit : {D : Type 0} → Kept D → Kept D → Known → Known → Type 0
+AddsNoCommit before after old new = (after.history ≡ before.history) × Shows before.history old new × AddsNothing old new
 
 -- ---- refusals
 

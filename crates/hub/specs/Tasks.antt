@@ -1,5 +1,5 @@
 -- What a call with a task promises.
-use Rattle.std.specs.Prelude.{◌≡◌, ◌≢◌, Some, Result, Ok, Err}
+use Rattle.std.specs.Prelude.{◌≡◌, ◌≢◌, Some, Result, Ok, Err, IfErr}
 use Rattle.terms.specs.declared.name.Inst.{Inst}
 use Rattle.terms.specs.declared.event.Event.{Event}
 use Rattle.instances.specs.declared.state.State.TheVariants.{Running}
@@ -32,7 +32,15 @@ pub record IsMade {D : Type 0} (old : Kept D) (task : Inst) (does : Type 0) : Ty
   pub running : state_of old.core task ≡ Some Running
   pub call : does
 
+-- The core's call with a task is made, and ends so; or the task comes back, and nothing has changed.
+abbrev pub CallsWith : {D T : Type 0} → Kept D → Kept D → Inst → (Result T CoreError → Type 0) → Result T TaskError → Type 0
+CallsWith old new task ends result = OnTask result (IsForeign old new task) (λ answer. IsMade old task (ends answer))
+
 -- ---- refusals
+
+-- the task comes back, or the core's call is refused for one of these causes
+abbrev pub RefusesTask : {T : Type 0} → Inst → (CoreError → Type 0) → Result T TaskError → Type 0
+RefusesTask task why result = OnTask result (λ back. back ≡ task) (λ answer. IfErr answer why)
 
 -- an end of the instance is refused with this error in the state that the pass knows
 abbrev pub RefusesEndOf : Opening → Known → Inst → Outcome → CoreError → Type 0

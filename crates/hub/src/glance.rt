@@ -57,7 +57,7 @@ impl Glance {
 
     /// Lets the worker with this number lead, unless one leads. Says whether it does now.
     pub(crate) fn lead(&self, number: usize) -> bool {
-        let own = (number as u64).saturating_add(1);
+        let own = word_of(number);
         let now = self.lead.load(Ordering::SeqCst);
         if now != NOBODY {
             return now == own;
@@ -67,21 +67,54 @@ impl Glance {
             .is_ok()
     }
 
-    /// No worker leads from now on. Those that sleep meanwhile are woken.
-    pub(crate) fn end_lead(&self) {
-        self.lead.store(NOBODY, Ordering::SeqCst);
-        self.lead.wake_all();
+    /// Lets the worker with this number lead, and no other.
+    pub(crate) fn take_lead(&self, number: usize) {
+        self.lead.store(word_of(number), Ordering::SeqCst);
+    }
+
+    /// If the worker with this number leads, none does from now on, and those that sleep meanwhile are woken.
+    pub(crate) fn end_lead(&self, number: usize) {
+        let own = word_of(number);
+        if self.lead.load(Ordering::SeqCst) != own {
+            return;
+        }
+        let ended = self
+            .lead
+            .compare_exchange(own, NOBODY, Ordering::SeqCst, Ordering::SeqCst);
+        if ended.is_ok() {
+            self.lead.wake_all();
+        }
     }
 
     /// Sleeps until no worker leads, or for this many milliseconds. If none leads now, it returns at once.
     pub(crate) fn nap<R: Wait>(&self, rt: &R, millis: u64) {
         let now = self.lead.load(Ordering::SeqCst);
         if now != NOBODY {
-            self.lead.park_timeout(
-                rt,
-                (now & 0xffff_ffff) as u32,
-                Duration::from_millis(millis),
-            );
+            self.sleep(rt, now, millis);
         }
     }
+
+    /// Sleeps until the lead changes or all are woken, or for this many milliseconds.
+    pub(crate) fn rest<R: Wait>(&self, rt: &R, millis: u64) {
+        self.sleep(rt, self.lead.load(Ordering::SeqCst), millis);
+    }
+
+    // Sleeps so, unless another worker leads than `now` says.
+    fn sleep<R: Wait>(&self, rt: &R, now: u64, millis: u64) {
+        self.lead.park_timeout(
+            rt,
+            (now & 0xffff_ffff) as u32,
+            Duration::from_millis(millis),
+        );
+    }
+
+    /// Wakes all that sleep.
+    pub(crate) fn wake(&self) {
+        self.lead.wake_all();
+    }
+}
+
+// The word that says that the worker with this number leads.
+fn word_of(number: usize) -> u64 {
+    (number as u64).saturating_add(1)
 }

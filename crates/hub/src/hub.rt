@@ -57,9 +57,9 @@ impl<J: Naming, D: Disk> Hub<J, D> {
     ghost use Rattle.commit.specs.Outcome.{end_of};
     ghost use Rattle.hub.specs.Ends.{MayAnswer};
     ghost use Rattle.hub.specs.Replies.{Adds, AddsNothing, MayRun, RefusesEvent, RefusesQuestion, RefusesWait, RefusesWatch, SaysHalted, Sees};
-    ghost use Rattle.hub.specs.Tasks.{OnTask, RefusesEndOf};
+    ghost use Rattle.hub.specs.Tasks.{OnTask, RefusesEndOf, RefusesTask};
     ghost use Rattle.commit.specs.Batch.{HaveOutcomes, ends_said};
-    ghost use Rattle.hub.specs.Batches.{AddsTogether, OnBatch, RefusesTogether};
+    ghost use Rattle.hub.specs.Batches.{AddsTogether, RefusesBatch, RefusesTogether};
     ghost use Rattle.hub.specs.Claims.{AddsClaimed, RefusesClaims};
 
     // Takes the hub apart.
@@ -231,7 +231,7 @@ impl<J: Naming, D: Disk> Hub<J, D> {
     ) -> Result<(), TaskError>
         requires { IsParkedIn J.opening.graph (facts_behind J.opening pass.old.seen) task parked.now }
         ensures seen { Sees J.opening pass.old pass.new × AddsNothing pass.old pass.new }
-        ensures refused { OnTask result (λ back. back ≡ task) (λ answer. IfErr answer (RefusesWait J.opening pass.new parked.now.address)) }
+        ensures refused { RefusesTask task (RefusesWait J.opening pass.new parked.now.address) result }
     {
         let mut kept = self.locked(rt);
         let answer = kept.park(&self.board, pass, task, parked);
@@ -270,7 +270,7 @@ impl<J: Naming, D: Disk> Hub<J, D> {
         ensures seen { Sees J.opening pass.old pass.new }
         ensures ok { IfOk result (λ committed. MayAnswer outcome.entry committed × Adds (end_of committed task outcome.entry ∷ []) pass.old pass.new) }
         ensures err { OnErr result (AddsNothing pass.old pass.new) }
-        ensures refused { OnTask result (λ back. back ≡ task) (λ answer. IfErr answer (RefusesEndOf J.opening pass.new task outcome.entry)) }
+        ensures refused { RefusesTask task (RefusesEndOf J.opening pass.new task outcome.entry) result }
     {
         let mut kept = self.locked(rt);
         let answer = kept.finish(&self.board, pass, task, outcome);
@@ -296,7 +296,7 @@ impl<J: Naming, D: Disk> Hub<J, D> {
         ensures seen { Sees J.opening pass.old pass.new }
         ensures ok { IfOk result (AddsTogether J.opening (ends_said batch.entry) pass.old pass.new) }
         ensures err { OnErr result (AddsNothing pass.old pass.new) }
-        ensures refused { OnBatch result (λ back. back ≡ batch.entry) (λ answer. IfErr answer (RefusesTogether J.opening pass.new (ends_said batch.entry))) }
+        ensures refused { RefusesBatch batch.entry (RefusesTogether J.opening pass.new (ends_said batch.entry)) result }
     {
         self.visit(rt).finish_all(pass, batch)
     }
@@ -335,14 +335,29 @@ impl<J: Naming, D: Disk> Hub<J, D> {
         self.glance.lead(number)
     }
 
-    /// No worker leads from now on. It is for the one that leads.
-    pub fn end_lead(&self) {
-        self.glance.end_lead();
+    /// Lets the worker with this number lead, and no other.
+    pub fn take_lead(&self, number: usize) {
+        self.glance.take_lead(number);
+    }
+
+    /// If the worker with this number leads, none does from now on.
+    pub fn end_lead(&self, number: usize) {
+        self.glance.end_lead(number);
     }
 
     /// Sleeps until no worker leads, or for this many milliseconds.
     pub fn nap<R: Wait>(&self, rt: &R, millis: u64) {
         self.glance.nap(rt, millis);
+    }
+
+    /// Sleeps for this many milliseconds, or until the lead changes or `wake` is called.
+    pub fn rest<R: Wait>(&self, rt: &R, millis: u64) {
+        self.glance.rest(rt, millis);
+    }
+
+    /// Wakes the workers that nap or rest.
+    pub fn wake(&self) {
+        self.glance.wake();
     }
 
     /// The graph; bodies of it are run outside the lock.

@@ -72,10 +72,10 @@ impl<J: Naming, D: Disk> Kept<J, D> {
     ghost use Rattle.hub.specs.Kept.{CrashLeavesHistory, HasRun, IsBusy, IsKept};
     ghost use Rattle.commit.specs.Outcome.{end_of};
     ghost use Rattle.hub.specs.Ends.{MayAnswer};
-    ghost use Rattle.hub.specs.Replies.{Adds, AddsNothing, MayRun, RefusesEvent, RefusesQuestion, RefusesWait, RefusesWatch, SaysHalted, Sees};
-    ghost use Rattle.hub.specs.Tasks.{IsForeign, IsMade, OnTask, RefusesEndOf};
+    ghost use Rattle.hub.specs.Replies.{Adds, AddsNoCommit, AddsNothing, MayRun, RefusesEvent, RefusesQuestion, RefusesWait, RefusesWatch, SaysHalted, Sees};
+    ghost use Rattle.hub.specs.Tasks.{CallsWith, RefusesEndOf, RefusesTask};
     ghost use Rattle.instances.specs.declared.state.State.TheVariants.{Ready};
-    ghost use Rattle.commit.specs.Calls.{CommitsAs, IsUnchanged};
+    ghost use Rattle.commit.specs.Calls.{CommitsAs};
     ghost use Rattle.commit.specs.Gets.{Gets};
     ghost use Rattle.commit.specs.Runs.{Ends};
     ghost use Rattle.commit.specs.Came.{IsOutcomeIn, IsParkedIn};
@@ -119,7 +119,7 @@ impl<J: Naming, D: Disk> Kept<J, D> {
         ensures history { OnOk result (Writes (EnvItem addr value ∷ []) self.old.history self.new.history pass.old pass.new) }
         ensures seen { Sees J.opening pass.old pass.new }
         ensures ok { OnOk result (Adds (EnvItem addr value ∷ []) pass.old pass.new) }
-        ensures err { OnErr result ((self.new.history ≡ self.old.history) × Shows self.old.history pass.old pass.new × AddsNothing pass.old pass.new) }
+        ensures err { OnErr result (AddsNoCommit self.old self.new pass.old pass.new) }
         ensures refused { IfErr result (RefusesEvent J.opening pass.new (λ g X. RefusesItem g X addr) (EnvItem addr value)) }
     {
         facts_are_told_apart();
@@ -152,7 +152,7 @@ impl<J: Naming, D: Disk> Kept<J, D> {
         ensures history { OnOk result (Writes (EnvTag tag ∷ []) self.old.history self.new.history pass.old pass.new) }
         ensures seen { Sees J.opening pass.old pass.new }
         ensures ok { OnOk result (Adds (EnvTag tag ∷ []) pass.old pass.new) }
-        ensures err { OnErr result ((self.new.history ≡ self.old.history) × Shows self.old.history pass.old pass.new × AddsNothing pass.old pass.new) }
+        ensures err { OnErr result (AddsNoCommit self.old self.new pass.old pass.new) }
         ensures refused { IfErr result (RefusesEvent J.opening pass.new (λ g X. RefusesTag g X tag) (EnvTag tag)) }
     {
         facts_are_told_apart();
@@ -267,10 +267,10 @@ impl<J: Naming, D: Disk> Kept<J, D> {
         parked: &Parked<'_>,
     ) -> Result<(), TaskError>
         requires { IsParkedIn J.opening.graph (facts_behind J.opening pass.old.seen) task parked.now }
-        ensures core { OnTask result (IsForeign self.old self.new task) (λ answer. IsMade self.old task (Parks self.old.core self.new.core task parked.now.address answer)) }
+        ensures core { CallsWith self.old self.new task (Parks self.old.core self.new.core task parked.now.address) result }
         ensures history { (self.new.history ≡ self.old.history) × Shows self.old.history pass.old pass.new }
         ensures seen { Sees J.opening pass.old pass.new × AddsNothing pass.old pass.new }
-        ensures refused { OnTask result (λ back. back ≡ task) (λ answer. IfErr answer (RefusesWait J.opening pass.new parked.now.address)) }
+        ensures refused { RefusesTask task (RefusesWait J.opening pass.new parked.now.address) result }
     {
         facts_are_told_apart();
         facts_go_on();
@@ -292,7 +292,7 @@ impl<J: Naming, D: Disk> Kept<J, D> {
         pass: &mut WorkPass<J>,
         task: Task,
     ) -> Result<(), TaskError>
-        ensures core { OnTask result (IsForeign self.old self.new task) (λ answer. IsMade self.old task ((answer ≡ Ok tt) × Moves self.old.core self.new.core task Ready)) }
+        ensures core { CallsWith self.old self.new task (λ answer. (answer ≡ Ok tt) × Moves self.old.core self.new.core task Ready) result }
         ensures history { (self.new.history ≡ self.old.history) × Shows self.old.history pass.old pass.new }
         ensures seen { Sees J.opening pass.old pass.new × AddsNothing pass.old pass.new }
     {
@@ -314,12 +314,12 @@ impl<J: Naming, D: Disk> Kept<J, D> {
         outcome: Outcome<'_>,
     ) -> Result<Committed, TaskError>
         requires { IsOutcomeIn J.opening.graph (facts_behind J.opening pass.old.seen) task outcome }
-        ensures core { OnTask result (IsForeign self.old self.new task) (λ answer. IsMade self.old task (Ends D.Disk self.old.core self.new.core task outcome.entry answer)) }
+        ensures core { CallsWith self.old self.new task (Ends D.Disk self.old.core self.new.core task outcome.entry) result }
         ensures history { IfOk result (λ committed. Writes (end_of committed task outcome.entry ∷ []) self.old.history self.new.history pass.old pass.new) }
         ensures seen { Sees J.opening pass.old pass.new }
         ensures ok { IfOk result (λ committed. MayAnswer outcome.entry committed × Adds (end_of committed task outcome.entry ∷ []) pass.old pass.new) }
-        ensures err { OnErr result ((self.new.history ≡ self.old.history) × Shows self.old.history pass.old pass.new × AddsNothing pass.old pass.new) }
-        ensures refused { OnTask result (λ back. back ≡ task) (λ answer. IfErr answer (RefusesEndOf J.opening pass.new task outcome.entry)) }
+        ensures err { OnErr result (AddsNoCommit self.old self.new pass.old pass.new) }
+        ensures refused { RefusesTask task (RefusesEndOf J.opening pass.new task outcome.entry) result }
     {
         facts_are_told_apart();
         facts_go_on();
@@ -344,21 +344,12 @@ impl<J: Naming, D: Disk> Kept<J, D> {
     /// Whether an instance runs, or may be claimed.
     pub fn busy(&mut self, board: &Board<J>, pass: &mut WorkPass<J>) -> bool
         ensures says { (result ≡ true) ↔ IsBusy self.old.core }
-        ensures core { IsUnchanged self.old.core self.new.core × (self.new.core.vault ≡ self.old.core.vault) × (self.new.core.in_doubt ≡ self.old.core.in_doubt) }
+        ensures core { self.new.core ≡ self.old.core }
         ensures history { (self.new.history ≡ self.old.history) × Shows self.old.history pass.old pass.new }
         ensures seen { Sees J.opening pass.old pass.new × AddsNothing pass.old pass.new }
     {
         board.show(&mut self.desk, pass);
-        if self.core.running() != 0 {
-            return true;
-        }
-        match self.core.claim(0) {
-            Ok(Some(task)) => {
-                self.core.release(task);
-                true
-            }
-            _ => false,
-        }
+        self.core.running() != 0 || self.core.may_claim()
     }
 }
 

@@ -1,11 +1,11 @@
 //! Several ends of instances, under the lock.
-ghost use Rattle.std.specs.Prelude.{◌≡◌, IfErr, IfOk, IsTrue, OnErr};
+ghost use Rattle.std.specs.Prelude.{IfOk, IsTrue, OnErr};
 ghost use Rattle.machine.specs.Group.{cut};
-ghost use Rattle.commit.specs.Batch.{EndsAll, HaveOutcomes, ends_said};
-ghost use Rattle.passes.specs.Visits.{Shows, Writes};
-ghost use Rattle.hub.specs.Batches.{AddsTogether, AreMade, IsForeignBatch, OnBatch, RefusesTogether};
+ghost use Rattle.commit.specs.Batch.{HaveOutcomes, ends_said};
+ghost use Rattle.passes.specs.Visits.{Writes};
+ghost use Rattle.hub.specs.Batches.{AddsTogether, FinishesAll, RefusesBatch, RefusesTogether};
 ghost use Rattle.hub.specs.Opening.{facts_behind};
-ghost use Rattle.hub.specs.Replies.{AddsNothing, Sees};
+ghost use Rattle.hub.specs.Replies.{AddsNoCommit, Sees};
 
 use crate::visits::record_ends;
 use crate::{BatchError, Kept, WorkPass};
@@ -28,12 +28,12 @@ impl<J: Naming, D: Disk> Kept<J, D> {
         batch: Batch<'a>,
     ) -> Result<Ended, BatchError<'a>>
         requires { HaveOutcomes J.opening.graph (facts_behind J.opening pass.old.seen) batch.tasks batch.outcomes }
-        ensures core { OnBatch result (IsForeignBatch self.old self.new batch.entry) (λ answer. AreMade self.old batch.entry.tasks (EndsAll D.Disk self.old.core self.new.core batch.entry.tasks (ends_said batch.entry) answer)) }
+        ensures core { FinishesAll D.Disk self.old self.new batch.entry result }
         ensures history { IfOk result (λ ended. Writes (cut ended (ends_said batch.entry)) self.old.history self.new.history pass.old pass.new) }
         ensures seen { Sees J.opening pass.old pass.new }
         ensures ok { IfOk result (AddsTogether J.opening (ends_said batch.entry) pass.old pass.new) }
-        ensures err { OnErr result ((self.new.history ≡ self.old.history) × Shows self.old.history pass.old pass.new × AddsNothing pass.old pass.new) }
-        ensures refused { OnBatch result (λ back. back ≡ batch.entry) (λ answer. IfErr answer (RefusesTogether J.opening pass.new (ends_said batch.entry))) }
+        ensures err { OnErr result (AddsNoCommit self.old self.new pass.old pass.new) }
+        ensures refused { RefusesBatch batch.entry (RefusesTogether J.opening pass.new (ends_said batch.entry)) result }
     {
         facts_are_told_apart();
         facts_go_on();

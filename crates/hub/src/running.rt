@@ -15,9 +15,8 @@ use disk::Disk;
 use instances::Task;
 use machine::results_are_meant;
 use passes::Naming;
-use std::alloc::Global;
 use std::sync::Wait;
-use steplang::{Run, Turn};
+use steplang::{Room, Run, Turn};
 use steptree::ends_within_limits;
 use terms::{Addr, facts_are_told_apart, facts_go_on};
 use vault::VaultError;
@@ -48,11 +47,11 @@ impl<J: Naming, D: Disk> Hub<J, D> {
     /// it is committed with them or after them, or not at all.
     ///
     /// Each read of what is committed is a `read` by itself, and takes the lock for that alone. The only errors are `NoMemory`, and those of a
-    /// read that the body asks for.
+    /// read that the body asks for. It runs in the memory of `room`, and leaves it there at the body's end.
     pub fn run<'a, R: Wait>(
         &'a self,
         rt: &R,
-        alloc: Global,
+        room: &mut Room<'a>,
         pass: &mut WorkPass<J>,
         task: &Task,
         kept: Option<&Batch<'a>>,
@@ -64,8 +63,8 @@ impl<J: Naming, D: Disk> Hub<J, D> {
     {
         let instance = task.inst();
         let checked = self.graph().body(instance.collection).unwrap();
-        match Run::start(alloc, checked, instance) {
-            Ok(run) => self.go_on(rt, pass, kept, run, None),
+        match room.begin(checked, instance) {
+            Ok(run) => self.go_on(rt, room, pass, kept, run, None),
             Err(_) => Err(CoreError::Store(VaultError::NoMemory)),
         }
     }
@@ -74,10 +73,11 @@ impl<J: Naming, D: Disk> Hub<J, D> {
     /// it still waits.
     ///
     /// The run must be of a body of this graph, and each item that it read must be in the state that the pass knew. The
-    /// errors are those of `run`.
+    /// errors are those of `run`. At the body's end `room` keeps the memory of the run.
     pub fn resume<'a, R: Wait>(
         &'a self,
         rt: &R,
+        room: &mut Room<'a>,
         pass: &mut WorkPass<J>,
         run: Run<'a>,
     ) -> Result<Ran<'a>, CoreError>
@@ -91,7 +91,7 @@ impl<J: Naming, D: Disk> Hub<J, D> {
         results_are_meant();
         let address = run.pending().unwrap();
         match self.read(rt, pass, address)? {
-            Some(value) => self.go_on(rt, pass, None, run, Some(value)),
+            Some(value) => self.go_on(rt, room, pass, None, run, Some(value)),
             None => Ok(Ran::Waits(run, false)),
         }
     }
@@ -100,6 +100,7 @@ impl<J: Naming, D: Disk> Hub<J, D> {
     fn go_on<'a, R: Wait>(
         &'a self,
         rt: &R,
+        room: &mut Room<'a>,
         pass: &mut WorkPass<J>,
         kept: Option<&Batch<'a>>,
         mut run: Run<'a>,
@@ -128,10 +129,14 @@ impl<J: Naming, D: Disk> Hub<J, D> {
                     Found::Nowhere => return Ok(Ran::Waits(run, ahead)),
                 },
                 Ok(Turn::Gave(given)) => {
-                    return Ok(Ran::Ended(Outcome::Gave(given), run.statements()));
+                    let statements = run.statements();
+                    room.keep(run);
+                    return Ok(Ran::Ended(Outcome::Gave(given), statements));
                 }
                 Ok(Turn::Fault(bad)) => {
-                    return Ok(Ran::Ended(Outcome::Fault(bad), run.statements()));
+                    let statements = run.statements();
+                    room.keep(run);
+                    return Ok(Ran::Ended(Outcome::Fault(bad), statements));
                 }
                 Err(_) => return Err(CoreError::Store(VaultError::NoMemory)),
             }

@@ -24,7 +24,7 @@ impl<'h, J: Naming, D: Disk> Drop for Visit<'h, J, D> {
 impl<'h, J: Naming, D: Disk> Visit<'h, J, D> {
     ghost use Rattle.std.specs.Prelude.{◌≡◌, Ok, OnErr, IfErr, IfOk};
     ghost use Rattle.commit.specs.Batch.{HaveOutcomes, ends_said};
-    ghost use Rattle.hub.specs.Batches.{AddsTogether, OnBatch, RefusesTogether};
+    ghost use Rattle.hub.specs.Batches.{AddsTogether, RefusesBatch, RefusesTogether};
     ghost use Rattle.hub.specs.Claims.{AddsClaimed, RefusesClaims};
     ghost use Rattle.hub.specs.Opening.{facts_behind};
     ghost use Rattle.hub.specs.Replies.{AddsNothing, Sees};
@@ -40,7 +40,7 @@ impl<'h, J: Naming, D: Disk> Visit<'h, J, D> {
         ensures seen { Sees J.opening pass.old pass.new }
         ensures ok { IfOk result (AddsTogether J.opening (ends_said batch.entry) pass.old pass.new) }
         ensures err { OnErr result (AddsNothing pass.old pass.new) }
-        ensures refused { OnBatch result (λ back. back ≡ batch.entry) (λ answer. IfErr answer (RefusesTogether J.opening pass.new (ends_said batch.entry))) }
+        ensures refused { RefusesBatch batch.entry (RefusesTogether J.opening pass.new (ends_said batch.entry)) result }
     {
         let answer = self.kept.finish_all(&self.hub.board, pass, batch);
         self.hub.glance.note_batch();

@@ -18,7 +18,7 @@ use instances::{Task, Tasks};
 use passes::Naming;
 use std::alloc::{AllocError, Global};
 use std::sync::Wait;
-use terms::StepCollection;
+use steplang::Room;
 
 /// What a worker has claimed, the runs that it keeps while their instances wait, and its pace.
 pub(crate) struct Hand<'a> {
@@ -26,6 +26,8 @@ pub(crate) struct Hand<'a> {
     pub(crate) claimed: Tasks,
     /// The runs that it keeps.
     pub(crate) waiting: Waiting<'a>,
+    /// The memory in which it runs bodies.
+    pub(crate) room: Room<'a>,
     /// What it remembers of the bodies that it ran, and of what others did.
     pub(crate) pace: Pace,
     // Its tickets, and those of others.
@@ -51,6 +53,7 @@ impl<'a> Hand<'a> {
         Ok(Hand {
             claimed,
             waiting: Waiting::none(alloc),
+            room: Room::new(alloc),
             pace: Pace::new(),
             shelf,
             looked: 0,
@@ -81,12 +84,12 @@ impl<'a> Hand<'a> {
         self.chases = true;
     }
 
-    /// Notes that a body of this step has ended, after this number of statements.
-    pub(crate) fn note_end(&mut self, step: StepCollection, statements: u32)
+    /// Notes that a body has ended, after this number of statements and puts.
+    pub(crate) fn note_end(&mut self, statements: u32, puts: usize)
         ensures { HasTheSame self.old self.new }
     {
         self.tried = false;
-        self.pace.note_end(step, statements);
+        self.pace.note_end(statements, puts);
     }
 
     /// What is kept, if a body may look for items there, `ready` being the number of instances that are ready now.
@@ -352,6 +355,7 @@ impl<'a> Hand<'a> {
         let Hand {
             claimed,
             waiting,
+            room: _,
             pace: _,
             shelf: _,
             looked: _,

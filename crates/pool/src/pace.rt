@@ -6,7 +6,6 @@ use crate::worker::{FEW, MOST_KEPT};
 use disk::Disk;
 use hub::Hub;
 use passes::Naming;
-use terms::StepCollection;
 
 // A body takes long if it makes this number of statements and turns of loops: some 60 microseconds, about as long as one of a commit's two syncs on a disk.
 const LONG: u32 = 10_000;
@@ -14,10 +13,13 @@ const LONG: u32 = 10_000;
 // What a body takes beside its statements, counted in statements.
 const VISIT: u32 = 100;
 
-// A body is light if it makes fewer statements: then its commit takes longer than the body, and one worker alone takes about as long for such bodies as several.
+// What a put takes where it is committed, counted in statements.
+const PUT: u32 = 16;
+
+// A body is light if it makes fewer than this number of statements, after `PUT` for each of its puts is taken away: then its commit takes longer than the body, and one worker alone takes about as long for such bodies as several.
 const LIGHT: u32 = 64;
 
-// Of how many bodies the statements are remembered: each body takes this part of the sum away, and adds its own.
+// Of how many bodies the statements beyond their puts are remembered: each body takes this part of the sum away, and adds its own.
 const SPAN: u32 = 64;
 
 // The sum from which on bodies are not light of late.
@@ -29,12 +31,6 @@ const MOST_WORK: u32 = 16 * HEAVY_WORK;
 // The sum from which on bodies of late took so long, some five microseconds or more, that a visit of the lock for each of them is small beside them.
 const SHARED_WORK: u32 = MOST_WORK - MOST_WORK / 8;
 
-// The sum before the first body: some eight empty bodies make them light.
-const FIRST_WORK: u32 = HEAVY_WORK + HEAVY_WORK / 8;
-
-// How many steps are told apart by whether their bodies are light.
-const STEPS: u16 = 64;
-
 // A body looks for items among the results that are kept if these have at most this number of puts, since it goes through all of them.
 const FEW_PUTS: usize = 256;
 
@@ -44,7 +40,7 @@ const SOME_KEPT: usize = 64;
 // After how many bodies that ended, one after another, none has waited of late.
 const CALM: u32 = 256;
 
-// How often in a row a worker that left the work to another sees that nothing was committed meanwhile, before it works all the same.
+// How often in a row a worker that left the work to another sees that nothing was committed meanwhile although instances are ready, before it takes the lead.
 const QUIET: u32 = 4;
 
 /// What a worker remembers of the bodies that it ran, and of what others did.
@@ -58,62 +54,56 @@ pub(crate) struct Pace {
     puts: usize,
     // Whether so far `FEW` instances or more were ready at once.
     many: bool,
-    // The steps of which the last body that ended was not light: a bit each, by the step's number modulo `STEPS`.
-    heavy: u64,
-    // The statements of its bodies of late, to their ends or up to items that were not there: of some `SPAN` of them.
+    // The statements of its bodies of late beyond their puts, to their ends or up to items that were not there: of some `SPAN` of them.
     work: u32,
     // How many bodies have ended since one waited, up to `CALM` of them.
     calm: u32,
-    // Whether it is the worker that leads.
-    leads: bool,
+    // Whether it is to take the lead from the worker that has it.
+    takes: bool,
     // How often in a row it has seen no commit while it left the work to another.
     quiet: u32,
     // Whether it has given back what it had claimed since the last body that ended.
     left: bool,
-    // Whether it has waited for others in vain since the last body that ended.
-    in_vain: bool,
+    // How many instances it was to let wait when it had last waited for others in vain since the last body that ended, and how many of them are left.
+    lets: u32,
+    lets_left: u32,
     /// Whether it waits for others to commit before it claims again.
     pub(crate) waits: bool,
+    /// Whether it sleeps while it does.
+    pub(crate) rests: bool,
     /// How often in a row it has found nothing to do.
     pub(crate) vain: u32,
 }
 
 impl Pace {
-    /// That of a worker that has run no body. Until then it is not known whether bodies take long.
+    /// That of a worker that has run no body. Until then it is not known whether bodies take long; so that instances run in their order, one worker begins, and the others wait until it has met bodies
+    /// that do.
     pub(crate) fn new() -> Pace {
         Pace {
             slow: true,
             spent: 0,
             puts: 0,
             many: false,
-            heavy: 0,
-            work: FIRST_WORK,
+            work: 0,
             calm: 0,
-            leads: false,
+            takes: false,
             quiet: 0,
             left: false,
-            in_vain: false,
+            lets: 0,
+            lets_left: 0,
             waits: false,
+            rests: false,
             vain: 0,
         }
     }
 
-    // Whether bodies of this step are light, as far as it has seen.
-    fn is_light(&self, step: StepCollection) -> bool {
-        self.heavy & bit_of(step) == 0
-    }
-
-    /// Notes that a body of this step has ended, after this number of statements.
-    pub(crate) fn note_end(&mut self, step: StepCollection, statements: u32) {
-        if statements < LIGHT {
-            self.heavy &= !bit_of(step);
-        } else {
-            self.heavy |= bit_of(step);
-        }
-        self.note_work(statements);
+    /// Notes that a body has ended, after this number of statements and puts.
+    pub(crate) fn note_end(&mut self, statements: u32, puts: usize) {
+        self.note_work(beyond_puts(statements, puts));
         self.calm = self.calm.saturating_add(1).min(CALM);
         self.left = false;
-        self.in_vain = false;
+        self.lets = 0;
+        self.lets_left = 0;
         self.quiet = 0;
     }
 
@@ -136,56 +126,58 @@ impl Pace {
     }
 
     /// Whether the worker with this number leaves its work to another: if its bodies of late are light, and another worker leads. If none leads, this one does from now on, until its bodies
-    /// are not light any more.
+    /// are not light any more, or another worker takes the lead.
     pub(crate) fn gives_way<J: Naming, D: Disk>(&mut self, hub: &Hub<J, D>, number: usize) -> bool {
         if self.work >= HEAVY_WORK {
-            self.end_lead(hub);
+            hub.end_lead(number);
             return false;
         }
-        if !self.leads {
-            self.leads = hub.lead(number);
+        if self.takes {
+            self.takes = false;
+            hub.take_lead(number);
         }
-        !self.leads
+        !hub.lead(number)
     }
 
-    /// If the worker leads, it does no longer.
-    pub(crate) fn end_lead<J: Naming, D: Disk>(&mut self, hub: &Hub<J, D>) {
-        if self.leads {
-            self.leads = false;
-            hub.end_lead();
-        }
-    }
-
-    /// Notes whether anything was committed while it left the work to another. After `QUIET` times in a row in which nothing was, it works all the same, for a while.
-    pub(crate) fn note_nap(&mut self, committed: bool) {
+    /// Notes whether anything was committed while it left the work to another, `ready` being the number of instances that are ready now. After `QUIET` times in a row in which nothing was although
+    /// some are ready, it takes the lead: the other runs a body that takes long, or waits for a device that does.
+    pub(crate) fn note_nap(&mut self, committed: bool, ready: usize) {
         self.waits = false;
-        self.quiet = if committed {
+        self.quiet = if committed || ready == 0 {
             0
         } else {
             self.quiet.saturating_add(1)
         };
         if self.quiet >= QUIET {
             self.quiet = 0;
-            self.work = MOST_WORK;
+            self.takes = true;
         }
     }
 
-    /// Whether the worker, whose body of this step waits, gives back what it has claimed: if the step's bodies are light, and so are its bodies of late, others run something, and it has not waited for others in vain. `own` is the number of instances that
-    /// it has claimed and not committed, and `running` that of all instances that run. Then it leaves the work to the worker that leads; or, if it leads itself, goes on once others have committed. If it went on now, one instance after another
-    /// might wait, and each would be woken and run anew.
-    pub(crate) fn leaves(&mut self, step: StepCollection, own: usize, running: usize) -> bool {
-        if !self.is_light(step) || self.work >= HEAVY_WORK || self.in_vain || running <= own {
+    /// Whether the worker, whose body waits, gives back what it has claimed: if its bodies of late do not take long, others run something, and it is not to let this instance wait, since it has waited for others in vain. `own` is the number of instances that
+    /// it has claimed and not committed, and `running` that of all instances that run. Then it goes on once others have committed. If it went on now, one instance after another might wait, and each would be woken and run anew. If it does so once more before a body
+    /// has ended, it sleeps meanwhile, unless its bodies are light: then one worker leads.
+    pub(crate) fn leaves(&mut self, own: usize, running: usize) -> bool {
+        if self.work >= SHARED_WORK || running <= own {
+            return false;
+        }
+        if self.lets_left > 0 {
+            self.lets_left -= 1;
             return false;
         }
         self.waits = true;
+        self.rests = self.left && self.work >= HEAVY_WORK;
         self.left = true;
         true
     }
 
-    /// Notes whether others have committed while it waited for that.
+    /// Notes whether others have committed while it waited for that. If not, it lets the next instance wait, or the next ones: twice as many each time.
     pub(crate) fn note_waited(&mut self, committed: bool) {
         self.waits = false;
-        self.in_vain = !committed;
+        if !committed {
+            self.lets = self.lets.saturating_mul(2).max(1);
+            self.lets_left = self.lets;
+        }
     }
 
     /// Whether a body may look for items among the results that are kept: if these have few puts, and `FEW` instances or more were ready at once so far, `ready` being those that are now. In a
@@ -247,7 +239,10 @@ impl Pace {
     }
 }
 
-// The bit of a step.
-fn bit_of(step: StepCollection) -> u64 {
-    1u64 << (step.0 % STEPS)
+// How many statements a body made beyond what its puts take.
+fn beyond_puts(statements: u32, puts: usize) -> u32 {
+    match u32::try_from(puts) {
+        Ok(puts) => statements.saturating_sub(PUT.saturating_mul(puts)),
+        Err(_) => 0,
+    }
 }

@@ -49,11 +49,12 @@ pub(crate) fn go_on<'a, J: Naming, D: Disk, R: Wait>(
         return wait_for_own(rt, alloc, hub, pass, hand, task, run, kept);
     }
     let before = run.statements();
-    match hub.resume(rt, pass, run) {
+    match hub.resume(rt, &mut hand.room, pass, run) {
         Ok(Ran::Ended(outcome, statements)) => {
-            hand.note_end(task.inst().collection, statements);
+            let puts = puts_of(&outcome);
+            hand.note_end(statements, puts);
             let made = statements.saturating_sub(before);
-            hand.note(made, puts_of(&outcome), kept.is_some());
+            hand.note(made, puts, kept.is_some());
             keep(rt, alloc, hub, pass, hand, task, outcome, kept)
         }
         Ok(Ran::Waits(run, _)) => {
@@ -138,10 +139,11 @@ fn go_on_alone<'a, J: Naming, D: Disk, R: Wait>(
     ensures turned { IsTurned J.opening pass.new result }
     ensures asked { result ≡ Ends (Some MetAsked) → ⊥ }
 {
-    match hub.resume(rt, pass, run) {
+    match hub.resume(rt, &mut hand.room, pass, run) {
         Ok(Ran::Ended(outcome, statements)) => {
-            hand.note_end(task.inst().collection, statements);
-            hand.note(statements, puts_of(&outcome), false);
+            let puts = puts_of(&outcome);
+            hand.note_end(statements, puts);
+            hand.note(statements, puts, false);
             keep(rt, alloc, hub, pass, hand, task, outcome, None)
         }
         Ok(Ran::Waits(run, _)) => goes_on_unless(park(rt, hub, pass, hand, task, run)),

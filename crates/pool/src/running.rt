@@ -80,11 +80,12 @@ fn begin<'a, J: Naming, D: Disk, R: Wait>(
     facts_are_told_apart();
     facts_go_on();
     results_are_meant();
-    let step = task.inst().collection;
-    match hub.run(rt, alloc, pass, &task, hand.ahead(&kept, hub.ready())) {
+    let beside = hand.ahead(&kept, hub.ready());
+    match hub.run(rt, &mut hand.room, pass, &task, beside) {
         Ok(Ran::Ended(outcome, statements)) => {
-            hand.note_end(step, statements);
-            hand.note(statements, puts_of(&outcome), kept.is_some());
+            let puts = puts_of(&outcome);
+            hand.note_end(statements, puts);
+            hand.note(statements, puts, kept.is_some());
             keep(rt, alloc, hub, pass, hand, task, outcome, kept)
         }
         Ok(Ran::Waits(run, ahead)) => {
@@ -92,8 +93,8 @@ fn begin<'a, J: Naming, D: Disk, R: Wait>(
             hand.pace.note_missing();
             hand.pace.note_work(run.statements());
             let own = hand.own(count_of(&kept));
-            if hand.pace.leaves(step, own, hub.running()) {
-                drop(run);
+            if hand.pace.leaves(own, hub.running()) {
+                hand.room.keep(run);
                 return leave(rt, hub, pass, hand, task, kept);
             }
             if ahead || hand.pace.is_slow() || hand.pace.has_many_puts() {

@@ -116,7 +116,8 @@ fn run_all<'a, J: Naming, D: Disk, P: Probe, R: Wait>(
     };
     let met = take_turns(rt, alloc, hub, pass, probe, &mut hand);
     hand.give_back(rt, hub, pass);
-    hand.pace.end_lead(hub);
+    hub.end_lead(pass.number());
+    hub.wake();
     hand.end();
     met
 }
@@ -172,7 +173,7 @@ fn turn<'a, J: Naming, D: Disk, P: Probe, R: Wait>(
         return give_way(rt, hub, pass, hand, kept);
     }
     if hand.pace.waits {
-        wait_for_others(hub, &mut hand.pace);
+        wait_for_others(rt, hub, pass.number(), &mut hand.pace);
     }
     match hand.next(rt, hub, pass, &kept) {
         Ok((Some(task), _)) => run_task(rt, alloc, hub, pass, probe, hand, task, kept),
@@ -203,7 +204,7 @@ fn give_way<'a, J: Naming, D: Disk, R: Wait>(
     let met = commit_kept(rt, hub, pass, kept);
     let before = hub.batches();
     hub.nap(rt, (pass.number() as u64).saturating_add(1));
-    hand.pace.note_nap(hub.batches() != before);
+    hand.pace.note_nap(hub.batches() != before, hub.ready());
     goes_on_unless(met)
 }
 
@@ -228,7 +229,7 @@ fn idle<'a, J: Naming, D: Disk, R: Wait>(
             if !busy {
                 return Turned::Ends(None);
             }
-            hand.pace.end_lead(hub);
+            hub.end_lead(pass.number());
             look_for_work(hub, pass, hand.pace.vain);
             hand.pace.vain = hand.pace.vain.saturating_add(1);
             Turned::GoesOn(None)
@@ -301,19 +302,34 @@ fn has_found<J: Naming, D: Disk>(
     hub.ready() != 0 && (vain == 0 || hub.batches() != before)
 }
 
-// Waits a little until others commit, or run nothing. It takes no lock.
-fn wait_for_others<J: Naming, D: Disk>(hub: &Hub<J, D>, pace: &mut Pace) {
+// Waits a little until others commit, or run nothing. It takes no lock. Or it sleeps for some milliseconds: the greater its number, the longer.
+fn wait_for_others<J: Naming, D: Disk, R: Wait>(
+    rt: &R,
+    hub: &Hub<J, D>,
+    number: usize,
+    pace: &mut Pace,
+) {
     let before = hub.batches();
+    if pace.rests {
+        hub.rest(rt, (number as u64).saturating_add(1));
+        pace.note_waited(has_moved(hub, before));
+        return;
+    }
     for look in 0..PATIENCE {
         if look < SPINS {
             spin_loop();
         } else {
             yield_now();
         }
-        if hub.batches() != before || hub.running() == 0 {
+        if has_moved(hub, before) {
             pace.note_waited(true);
             return;
         }
     }
     pace.note_waited(false);
+}
+
+// Whether others have committed since there were `before` commits, or run nothing.
+fn has_moved<J: Naming, D: Disk>(hub: &Hub<J, D>, before: usize) -> bool {
+    hub.batches() != before || hub.running() == 0
 }

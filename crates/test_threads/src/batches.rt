@@ -16,6 +16,7 @@ use instances::Task;
 use machine::results_are_meant;
 use passes::Naming;
 use std::io::Print;
+use steplang::Room;
 use terms::{facts_are_told_apart, facts_go_on};
 
 /// Tries this with two hubs in which the same two instances are ready. The first of them is claimed from the other hub.
@@ -75,7 +76,8 @@ fn with_own<'a, J: Naming, D: Disk, R: Handles>(
         keep_batch(rt, batch);
         bail!("nothing was claimed")
     };
-    let Ok(Ran::Ended(outcome, _)) = here.run(rt, rt.alloc(), runner, &task, None) else {
+    let Ok(Ran::Ended(outcome, _)) = here.run(rt, &mut Room::new(rt.alloc()), runner, &task, None)
+    else {
         keep(rt, task);
         keep_batch(rt, batch);
         bail!("it did not end")

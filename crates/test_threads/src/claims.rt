@@ -7,6 +7,7 @@ use disk::Disk;
 use hub::{EnvPass, Hub, Ran, WorkPass};
 use passes::Naming;
 use std::io::Print;
+use steplang::Room;
 
 /// One instance becomes ready, with the number 0, runs, waits, and is ready again when its item is put.
 pub(crate) fn by_number<J: Naming, D: Disk, R: Handles>(
@@ -54,7 +55,7 @@ fn busy_until_it_waits<J: Naming, D: Disk, R: Handles>(
         bail!("nothing was claimed")
     };
     let busy = hub.busy(rt, worker);
-    match hub.run(rt, rt.alloc(), worker, &task, None) {
+    match hub.run(rt, &mut Room::new(rt.alloc()), worker, &task, None) {
         Ok(Ran::Waits(run, _)) => spent(rt, hub.park(rt, worker, task, &run.park()))?,
         Ok(Ran::Ended(_, _)) => {
             release(rt, hub, worker, task)?;

@@ -16,6 +16,7 @@ use instances::Task;
 use passes::{Blank, Naming};
 use std::io::Print;
 use std::marker::Brand;
+use steplang::Room;
 use terms::{Inst, equals_are_one};
 
 /// Tries this with two hubs, of stores with the same facts.
@@ -86,7 +87,7 @@ pub(crate) fn outcome_here<'a, J: Naming, D: Disk + Drop, R: Handles>(
         bail!("nothing was claimed")
     };
     let instance = task.inst();
-    let came = here.run(rt, rt.alloc(), runner, &task, None);
+    let came = here.run(rt, &mut Room::new(rt.alloc()), runner, &task, None);
     release(rt, here, releaser, task)?;
     match came? {
         Ran::Ended(outcome, _) => Ok((instance, outcome)),

@@ -12,6 +12,7 @@ use hub::{EnvPass, Hub, Ran, TaskError, WorkPass};
 use instances::{Task, Ticket};
 use passes::Naming;
 use std::io::Print;
+use steplang::Room;
 
 /// Two instances are handed out, and one at a time may run. The one that puts `[fib: 2]` once more stops the store.
 pub(crate) fn by_ticket<J: Naming, D: Disk, R: Handles>(
@@ -163,7 +164,7 @@ fn ended<J: Naming, D: Disk, R: Handles>(
 ) -> Result<Committed, Error>
     requires { InstanceIsOf J.opening.graph task }
 {
-    match hub.run(rt, rt.alloc(), worker, &task, None) {
+    match hub.run(rt, &mut Room::new(rt.alloc()), worker, &task, None) {
         Ok(Ran::Ended(outcome, _)) => match hub.finish(rt, worker, task, outcome) {
             Ok(committed) => Ok(committed),
             Err(TaskError::Foreign(task)) => {

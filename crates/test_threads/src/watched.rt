@@ -15,6 +15,7 @@ use passes::{Blank, Naming};
 use std::io::Print;
 use std::marker::Brand;
 use std::thread::join;
+use steplang::Room;
 use vault::VaultError;
 
 // Three watches of `[fib: 5]`, and one of `[fib: 6]`.
@@ -168,7 +169,7 @@ fn run<J: Naming, D: Disk, R: Handles>(
 ) -> Result<(), CoreError>
     requires { InstanceIsOf J.opening.graph task }
 {
-    match hub.run(rt, rt.alloc(), pass, &task, None) {
+    match hub.run(rt, &mut Room::new(rt.alloc()), pass, &task, None) {
         Ok(Ran::Ended(outcome, _)) => settled(rt, hub.finish(rt, pass, task, outcome)),
         Ok(Ran::Waits(run, _)) => settled(rt, hub.park(rt, pass, task, &run.park())),
         Err(error) => {

@@ -1,4 +1,4 @@
-//! Two workers run two instances at the same time. The first to come takes the tickets of both, so the other mostly has to steal one.
+//! Two workers run two instances at the same time. The first to come takes the tickets of both, so the other steals one.
 ghost use Rattle.std.specs.Prelude.{IfOk};
 ghost use Rattle.commit.specs.Runs.{NoneRuns};
 
