@@ -20,7 +20,7 @@
 #     chain      LINKS instances, each of which reads what the one before it put
 #
 # Measured of SQLite: a program in C, below, on its own thread, with statements that were prepared before, in a new database with journal_mode=WAL and
-# synchronous=FULL, from the first BEGIN to the last COMMIT, with SQLite's own checkpoints. Eight steps are one transaction, and then 64, as a worker of `cnc run` commits up to 64 at once. A step inserts its item; or it inserts its
+# synchronous=FULL, from the first BEGIN to the last COMMIT, with SQLite's own checkpoints. Eight steps are one transaction, and then 64; a worker of `cnc run` commits up to 256 at once. A step inserts its item; or it inserts its
 # item and the mark that it is done. Not in it: the start of the process, the tables, the graph, the tags, the choice of what runs next, the body of the step, and
 # the checkpoint when the database is closed. So it does less than `cnc run` does; it says what its writes and syncs take, not what a program with steps takes.
 #

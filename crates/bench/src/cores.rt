@@ -21,7 +21,7 @@ use terms::{
 // A limit that no run meets.
 const LIMIT: u64 = 1_000_000_000;
 
-// Three graphs: each step needs nothing; each needs the one before; each needs two.
+// Four graphs: each step needs nothing; each needs the one before; each needs two; the same, with some 200 statements a step.
 const WIDE: &str =
     "[out: i]; <t: i>; <t> :: (one); (one) -> [out]; env -> <t>; env -> [out]; [out] -> env;
 step one(k) { read { } write { put [out: k] = k; } }";
@@ -34,16 +34,21 @@ const WAVEFRONT: &str =
     "[out: i, j]; <t: i, j>; <t> :: (cell); [out] -> (cell); (cell) -> [out]; env -> <t>; env -> [out]; [out] -> env;
 step cell(i, j) { var a, b; read { get a = [out: i - 1, j]; get b = [out: i, j - 1]; } write { if (a < b) { put [out: i, j] = b; } else { put [out: i, j] = a; } } }";
 
+const LONGER: &str =
+    "[out: i, j]; <t: i, j>; <t> :: (cell); [out] -> (cell); (cell) -> [out]; env -> <t>; env -> [out]; [out] -> env;
+step cell(i, j) { var a, b, k; read { get a = [out: i - 1, j]; get b = [out: i, j - 1]; } write { for k in 0 .. 100 { a = (a * 75 + b) % 65537; } put [out: i, j] = a; } }";
+
 /// A graph whose steps are run.
 #[derive(Clone, Copy, Debug, PartialEq, Eq)]
 pub(crate) enum Load {
     Wide,
     Chain,
     Wavefront,
+    Longer,
 }
 
 /// All loads.
-pub(crate) const LOADS: [Load; 3] = [Load::Wide, Load::Chain, Load::Wavefront];
+pub(crate) const LOADS: [Load; 4] = [Load::Wide, Load::Chain, Load::Wavefront, Load::Longer];
 
 impl Load {
     fn name(self) -> &'static str {
@@ -51,6 +56,7 @@ impl Load {
             Load::Wide => "wide",
             Load::Chain => "chain",
             Load::Wavefront => "wavefront",
+            Load::Longer => "wavefront of longer steps",
         }
     }
 
@@ -59,6 +65,7 @@ impl Load {
             Load::Wide => WIDE,
             Load::Chain => CHAIN,
             Load::Wavefront => WAVEFRONT,
+            Load::Longer => LONGER,
         }
     }
 
@@ -66,7 +73,7 @@ impl Load {
     fn tags(self, alloc: Global, steps: u32) -> Result<Vec<Key>, Error> {
         match self {
             Load::Wide | Load::Chain => line(alloc, steps),
-            Load::Wavefront => cells(alloc, square(steps)),
+            Load::Wavefront | Load::Longer => cells(alloc, square(steps)),
         }
     }
 
@@ -79,7 +86,7 @@ impl Load {
                 items.push(key(&[-1]))?;
                 Ok(items)
             }
-            Load::Wavefront => edges(alloc, square(steps)),
+            Load::Wavefront | Load::Longer => edges(alloc, square(steps)),
         }
     }
 }

@@ -17,7 +17,8 @@ use Rattle.audit.specs.declared.certificate.VerifyError.TheVariants as verify
 use Rattle.machine.specs.Counts.{AreCountsOf}
 use Rattle.machine.specs.declared.counts.Counts.{Counts}
 use Rattle.machine.specs.State.{IsReached}
-use Rattle.vault.specs.LiveSides.{StoodAfter}
+use Rattle.vault.specs.declared.reading.LiveSide.{LiveSide}
+use Rattle.vault.specs.LiveSides.{IsSideOf, StoodAfter}
 use Rattle.vault.specs.Opened.{IsOfOpening, OnlyReads, TellsWhy, contents_of}
 use Rattle.vault.specs.declared.error.VaultError.{VaultError}
 use Rattle.vault.specs.declared.error.VaultError.TheVariants as vault
@@ -40,6 +41,7 @@ use Rattle.cli.specs.declared.outcome.Failure.TheVariants as failure
 use Rattle.cli.specs.declared.outcome.Left.{Left}
 use Rattle.cli.specs.declared.outcome.Outcome.{Outcome}
 use Rattle.cli.specs.declared.outcome.Outcome.TheVariants.{Created, Ran, Reported, Logged, Turned, Drawn, Verified, NotVerified, Failed}
+use Rattle.cli.specs.Copies.{IsCopyAfter}
 use Rattle.cli.specs.Logged.{FailsToLog, IsLogOf}
 use Rattle.cli.specs.declared.words.Command.{Command}
 use Rattle.cli.specs.declared.words.Command.TheVariants as asked
@@ -112,6 +114,18 @@ pub record WritesReport {D : Type 0} (core : Core D) (format : Format) (before b
   pub answer : Result (Unit {0}) ReportError
   pub written : OnOk answer ((text : List ℕ) × IsReportIn format (graph core) (facts core) text × Appends before behind text)
   pub told : TellsReport core answer outcome
+
+-- The report is of a copy in memory, which has what this side had after its first commits; or there was no memory for the copy.
+abbrev pub ReportsSide : LiveSide → (count : ℕ) → Format → (before behind : Option (List ℕ)) → Outcome → Type 0
+ReportsSide live count format before behind outcome =
+    ((copy : Core MemDisk) × ((read : IsSideOf live) → IsCopyAfter count read copy) × WritesReport copy format before behind outcome)
+    ⊎ ((outcome ≡ Failed failure.NoMemory) × (behind ≡ before))
+
+-- ---- a certificate
+
+-- legal events lead to what the store holds
+abbrev pub IsGenuine : {D : Type 0} → Core D → Type 0
+IsGenuine core = IsReached (graph core) (environment core) (facts core)
 
 module _ {D : Type 0} (storage : Ghosts D) where
   -- ---- a creation
@@ -193,8 +207,8 @@ module _ {D : Type 0} (storage : Ghosts D) where
     pub core : Core D
     pub opened : WasOpened old core
     pub answer : Result (Unit {0}) VerifyError
-    pub certified : OnOk answer (IsReached (graph core) (environment core) (facts core))
-    pub genuine : is_halted core ≡ false → IsReached (graph core) (environment core) (facts core) → IfErr answer (λ why. why ≡ verify.NoMemory)
+    pub certified : OnOk answer (IsGenuine core)
+    pub genuine : is_halted core ≡ false → IsGenuine core → IfErr answer (λ why. why ≡ verify.NoMemory)
     pub told : TellsCertificate before behind answer outcome
     pub disk : new ≡ core.vault.disk
 

@@ -1,10 +1,10 @@
 //! The lines of a log.
-ghost use Rattle.std.specs.Prelude.{◌++◌, OnOk, codes};
+ghost use Rattle.std.specs.Prelude.{OnOk};
 ghost use Rattle.std.specs.Io.KnownBytes.{Appends};
-ghost use Rattle.report.specs.Named.{instance_text, item_text, tag_text};
 ghost use Rattle.report.specs.ReportText.{line, stopped_text};
-ghost use Rattle.cli.specs.LogText.{commit_lines, event_lines, group_lines, own_put_line};
+ghost use Rattle.cli.specs.LogText.{commit_lines, event_lines, group_lines, own_put_line, put_line};
 ghost use Rattle.terms.specs.declared.event.Event.TheVariants.{Done};
+ghost use Rattle.terms.specs.declared.put.Put.TheVariants.{Item, Tag as Label};
 
 use graph::Graph;
 use report::{NamedAddress, NamedInstance, NamedTag};
@@ -82,7 +82,7 @@ fn write_put<W: Write>(graph: &Graph, put: &Put, out: &mut W) -> io::Result<()>
 
 // Writes the put of an item.
 fn write_item<W: Write>(graph: &Graph, address: Addr, value: i64, out: &mut W) -> io::Result<()>
-    ensures { OnOk result (Appends (W.contents out.old) (W.contents out.new) (line (codes "put " ++ item_text graph.now address value))) }
+    ensures { OnOk result (Appends (W.contents out.old) (W.contents out.new) (put_line graph.now (Item address value))) }
 {
     let named = NamedAddress { graph, address };
     writeln!(out, "put {named} = {value}")
@@ -90,7 +90,7 @@ fn write_item<W: Write>(graph: &Graph, address: Addr, value: i64, out: &mut W) -
 
 // Writes the put of a tag.
 fn write_tag<W: Write>(graph: &Graph, tag: Tag, out: &mut W) -> io::Result<()>
-    ensures { OnOk result (Appends (W.contents out.old) (W.contents out.new) (line (codes "tag " ++ tag_text graph.now tag))) }
+    ensures { OnOk result (Appends (W.contents out.old) (W.contents out.new) (put_line graph.now (Label tag))) }
 {
     let named = NamedTag { graph, tag };
     writeln!(out, "tag {named}")

@@ -1,17 +1,14 @@
 //! What each command does.
-ghost use Rattle.std.specs.Prelude.{◌≡◌, ◌⊎◌, ◌++◌, false, IfOk, IfErr, IsTrue, codes};
-ghost use Rattle.std.specs.Fmt.{decimal};
+ghost use Rattle.std.specs.Prelude.{◌≡◌, ◌⊎◌, false, IfOk, IfErr, IsTrue, Ok, codes};
 ghost use Rattle.graph.specs.declared.limits.TheConstants.{MOST_TEXT};
-ghost use Rattle.commit.specs.Core.{is_halted};
 ghost use Rattle.commit.specs.Runs.{NoneRuns};
-ghost use Rattle.pool.specs.Driver.{may_be_asked, may_spawn};
-ghost use Rattle.session.specs.Answers.{drive_of};
-ghost use Rattle.session.specs.Fails.{Answers, IsAllOrTooLarge};
+ghost use Rattle.session.specs.Answers.{drive_by};
+ghost use Rattle.session.specs.Fails.{AnswersInput, IsAllOrTooLarge};
 ghost use Rattle.cli.specs.Obeyed.{CreatesOrNot, Draws, DrawsStore, IsDrawn, IsLeft, IsNotOpened, Obeys, Reports, Runs, SaysOrFails, TellsReport, TellsSession, TellsTurn, TurnsOver};
 ghost use Rattle.cli.specs.Outcomes.{status_of};
 ghost use Rattle.cli.specs.declared.outcome.Failure.TheVariants as failure;
 ghost use Rattle.cli.specs.declared.outcome.Outcome.{Outcome as Came};
-ghost use Rattle.cli.specs.declared.outcome.Outcome.TheVariants.{Created, Failed, Turned};
+ghost use Rattle.cli.specs.declared.outcome.Outcome.TheVariants.{Created, Failed};
 ghost use Rattle.cli.specs.declared.words.TheConstants.{MOST_LIMIT};
 
 use crate::hints::{graph_hint, script_hint};
@@ -77,7 +74,7 @@ pub fn obey<D: Disk + Send, R: Read, W: Write, E: Errors, H: Threads + Wait + Sy
     driver: &Driver<'_, H, P>,
 ) -> (D, u8)
     ensures { (outcome : Came) × (result.1 ≡ status_of outcome)
-        × Obeys D.Disk (drive_of MOST_LIMIT (may_be_asked P.may_stop driver.now) (may_spawn driver.now) false) command.now (R.remaining input.old) (W.contents out.old) (W.contents out.new) disk result.0 outcome }
+        × Obeys D.Disk (drive_by MOST_LIMIT P.may_stop driver.now false) command.now (R.remaining input.old) (W.contents out.old) (W.contents out.new) disk result.0 outcome }
 {
     let (disk, outcome) = obeyed(alloc, command, disk, input, out, err, driver);
     if let Outcome::Failed(failure) = &outcome {
@@ -96,7 +93,7 @@ fn obeyed<D: Disk + Send, R: Read, W: Write, E: Errors, H: Threads + Wait + Sync
     err: &mut E,
     driver: &Driver<'_, H, P>,
 ) -> (D, Outcome)
-    ensures { Obeys D.Disk (drive_of MOST_LIMIT (may_be_asked P.may_stop driver.now) (may_spawn driver.now) false) command.now (R.remaining input.old) (W.contents out.old) (W.contents out.new) disk result.0 result.1 }
+    ensures { Obeys D.Disk (drive_by MOST_LIMIT P.may_stop driver.now false) command.now (R.remaining input.old) (W.contents out.old) (W.contents out.new) disk result.0 result.1 }
 {
     match *command {
         Command::Create { .. } => create(alloc, disk, input, out),
@@ -228,7 +225,7 @@ fn turned<W: Write>(answer: Result<u64, CoreError>, out: &mut W) -> Outcome
 
 // Writes the generation of a store that was turned over.
 fn told_generation<W: Write>(generation: u64, out: &mut W) -> Outcome
-    ensures { SaysOrFails (W.contents out.old) (W.contents out.new) (codes "turned, generation " ++ decimal generation) (Turned generation) result }
+    ensures { TellsTurn (W.contents out.old) (W.contents out.new) (Ok generation) result }
 {
     match writeln!(out, "turned, generation {generation}") {
         Ok(()) => Outcome::Turned(generation),
@@ -246,7 +243,7 @@ fn run<D: Disk + Send, R: Read, W: Write, H: Threads + Wait + Sync, P: Probe>(
     limit: u64,
 ) -> (D, Outcome)
     ensures { IsNotOpened D.Disk (W.contents out.old) (W.contents out.new) disk result.0 result.1
-        ⊎ Runs D.Disk (drive_of limit (may_be_asked P.may_stop driver.now) (may_spawn driver.now) false) (R.remaining input.old) (W.contents out.old) (W.contents out.new) disk result.0 result.1 }
+        ⊎ Runs D.Disk (drive_by limit P.may_stop driver.now false) (R.remaining input.old) (W.contents out.old) (W.contents out.new) disk result.0 result.1 }
 {
     match Core::open(alloc, disk) {
         Ok(core) => {
@@ -271,7 +268,7 @@ fn run_session<D: Disk + Send, R: Read, W: Write, H: Threads + Wait + Sync, P: P
     limit: u64,
 ) -> (Core<D>, Result<Ending, SessionError>)
     requires { NoneRuns core }
-    ensures { Answers D.Disk (drive_of limit (may_be_asked P.may_stop driver.now) (may_spawn driver.now) (is_halted core)) (R.remaining input.old) (W.contents out.old) (W.contents out.new) core result.0 result.1 }
+    ensures { AnswersInput D.Disk W.contents (drive_by limit P.may_stop driver.now) (R.remaining input.old) out.old out.new core result.0 result.1 }
 {
     let mut source = ReaderSource {
         input,

@@ -1,15 +1,11 @@
 //! What a store was after the first of its commits.
 ghost use Rattle.std.specs.Prelude.{◌≡◌, ◌⊎◌, [], IfOk, IsTrue};
 ghost use Rattle.disk.specs.MemDisk.{files_of};
-ghost use Rattle.disk.specs.declared.mem_disk.MemDisk.{MemDisk as Memory};
 ghost use Rattle.disk.specs.declared.side.Side.TheVariants.{A, B};
-ghost use Rattle.commit.specs.Core.{Core as CoreOf};
 ghost use Rattle.sides.specs.First.{LeavesFirst};
 ghost use Rattle.vault.specs.LiveSides.{IsSideOf};
 ghost use Rattle.cli.specs.Copies.{IsCopyAfter};
-ghost use Rattle.cli.specs.Obeyed.{IsNotOpened, ReportsAt, WritesReport};
-ghost use Rattle.cli.specs.declared.outcome.Failure.TheVariants as failure;
-ghost use Rattle.cli.specs.declared.outcome.Outcome.TheVariants.{Failed};
+ghost use Rattle.cli.specs.Obeyed.{IsNotOpened, ReportsAt, ReportsSide};
 
 use crate::obeying::reported;
 use crate::{Failure, Outcome};
@@ -50,8 +46,7 @@ fn report_side<W: Write>(
     at: u64,
     out: &mut W,
 ) -> Outcome
-    ensures { ((copy : CoreOf Memory) × ((read : IsSideOf live) → IsCopyAfter at read copy) × WritesReport copy format (W.contents out.old) (W.contents out.new) result)
-        ⊎ ((result ≡ Failed failure.NoMemory) × (W.contents out.new ≡ W.contents out.old)) }
+    ensures { ReportsSide live at format (W.contents out.old) (W.contents out.new) result }
 {
     match copied(alloc, live, at) {
         Ok(copy) => reported(&copy, write_report_in(alloc, &copy, format, out)),

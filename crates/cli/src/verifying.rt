@@ -1,9 +1,8 @@
 //! The certificate of a store, and what is wrong in a store that has none.
 ghost use Rattle.std.specs.Prelude.{◌≡◌, ◌⊎◌, false, codes, IfErr, IsTrue, OnOk};
-ghost use Rattle.machine.specs.State.{IsReached};
-ghost use Rattle.commit.specs.Core as core_of;
+ghost use Rattle.commit.specs.Core.{is_halted};
 ghost use Rattle.audit.specs.declared.certificate.VerifyError.TheVariants.{NoMemory};
-ghost use Rattle.cli.specs.Obeyed.{IsNotOpened, SaysOrFails, TellsCertificate, Verifies};
+ghost use Rattle.cli.specs.Obeyed.{IsGenuine, IsNotOpened, SaysOrFails, TellsCertificate, Verifies};
 ghost use Rattle.cli.specs.declared.outcome.Outcome.TheVariants.{Verified};
 
 use crate::{Errors, Failure, Outcome};
@@ -59,8 +58,8 @@ fn verified_by<D: Disk, E: Errors>(
     core: &Core<D>,
     err: &mut E,
 ) -> Result<(), VerifyError>
-    ensures certified { OnOk result (IsReached (core_of.graph core.now) (core_of.environment core.now) (core_of.facts core.now)) }
-    ensures genuine { core_of.is_halted core.now ≡ false → IsReached (core_of.graph core.now) (core_of.environment core.now) (core_of.facts core.now) → IfErr result (λ why. why ≡ NoMemory) }
+    ensures certified { OnOk result (IsGenuine core.now) }
+    ensures genuine { is_halted core.now ≡ false → IsGenuine core.now → IfErr result (λ why. why ≡ NoMemory) }
 {
     let done = core.counts().done as u64;
     audit::verify(alloc, core, &mut Telling { err, done })

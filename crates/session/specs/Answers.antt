@@ -28,6 +28,8 @@ use Rattle.commit.specs.declared.verdict.RunError.TheVariants as ended
 use Rattle.commit.specs.declared.verdict.Verdict.{Verdict}
 use Rattle.commit.specs.declared.verdict.Verdict.TheVariants as verdict
 use Rattle.commit.specs.Runs.{IsEnd}
+use Rattle.pool.specs.declared.driver.Driver.{Driver}
+use Rattle.pool.specs.Driver.{may_be_asked as is_ever_asked, may_spawn as ever_spawns}
 use Rattle.script.specs.declared.command.Command.{Command}
 use Rattle.script.specs.declared.command.Command.TheVariants.{Put, Tag, Get, Run}
 use Rattle.session.specs.declared.reply.Reply.{Reply}
@@ -43,6 +45,10 @@ pub record Drive : Type 0 where
 
 abbrev pub drive_of : (most : ℕ) (may_be_asked may_spawn was_halted : Bool) → Drive
 drive_of most may_be_asked may_spawn was_halted = record { most = most; may_be_asked = may_be_asked; may_spawn = may_spawn; was_halted = was_halted }
+
+-- how a session runs its steps by this driver, whose probe may ask it to stop or not
+abbrev pub drive_by : {R P : Type 0} → (most : ℕ) → (may_stop : Bool) → Driver R P → (was_halted : Bool) → Drive
+drive_by most may_stop driver was_halted = drive_of most (is_ever_asked may_stop driver) (ever_spawns driver) was_halted
 
 -- ---- puts and gets
 

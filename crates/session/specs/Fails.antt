@@ -1,11 +1,11 @@
 -- What a session comes to: what was read, what came of it, and why it did not come to its end.
 use Rattle.disk.specs.declared.storage.Disk.{Ghosts}
-use Rattle.std.specs.Prelude.{◌≡◌, ◌⊎◌, ◌<◌, ⊤, ℕ, List, [], ◌++◌, length, Option, Some, None, Result, Err, IfOk, IfErr}
+use Rattle.std.specs.Prelude.{◌≡◌, ◌⊎◌, ◌<◌, ⊤, ℕ, Bool, List, [], ◌++◌, length, Option, Some, None, Result, Err, IfOk, IfErr}
 use Rattle.std.specs.Io.KnownBytes.{Appends}
 use Rattle.terms.specs.declared.event.Event.{Event}
 use Rattle.terms.specs.Sets.{Facts}
 use Rattle.graph.specs.Graph.{Graph}
-use Rattle.commit.specs.Core.{Core, graph, facts}
+use Rattle.commit.specs.Core.{Core, graph, facts, is_halted}
 use Rattle.script.specs.declared.command.Command.{Command}
 use Rattle.script.specs.declared.error.ScriptError.TheVariants.{At}
 use Rattle.script.specs.declared.parser.TheConstants.{MOST_BYTES}
@@ -29,6 +29,10 @@ IsAllOf (Some bytes) script = bytes ≡ script
 abbrev pub IsAllOrTooLarge : (most : ℕ) → Option (List ℕ) → List ℕ → Type 0
 IsAllOrTooLarge most None text = ⊤
 IsAllOrTooLarge most (Some bytes) text = (rest : List ℕ) × (bytes ≡ text ++ rest) × ((rest ≡ []) ⊎ (most < length text))
+
+-- these are the commands of the script that a reader had
+abbrev pub ReadsScript : Graph → Option (List ℕ) → List Command → Type 0
+ReadsScript g input commands = (script : List ℕ) × IsAllOf input script × IsScript g script commands
 
 -- ---- errors
 
@@ -119,3 +123,11 @@ module _ {D : Type 0} (storage : Ghosts D) (drive : Drive) where
   -- what a session comes to: it failed before its first line, or its script was answered
   abbrev pub Answers : (input before behind : Option (List ℕ)) → Core D → Core D → Result Ending SessionError → Type 0
   Answers input before behind old new result = FailsAtOnce input before behind old new result ⊎ AnswersScript input before behind old new result
+
+-- What a session answers to commands, and to the script that a reader had (`AnswersCommands`, `Answers`), from a core and a sink to what became of them; `drive` says how the session runs, by whether the store was halted when it began.
+module _ {D : Type 0} (storage : Ghosts D) {S : Type 0} (contents : S → Option (List ℕ)) where
+  abbrev pub AnswersAll : (drive : Bool → Drive) → List Command → (here there : S) → (old new : Core D) → Result Ending SessionError → Type 0
+  AnswersAll drive commands here there old new result = AnswersCommands storage (drive (is_halted old)) commands (contents here) (contents there) old new result
+
+  abbrev pub AnswersInput : (drive : Bool → Drive) → (input : Option (List ℕ)) → (here there : S) → (old new : Core D) → Result Ending SessionError → Type 0
+  AnswersInput drive input here there old new result = Answers storage (drive (is_halted old)) input (contents here) (contents there) old new result

@@ -4,16 +4,19 @@ use Rattle.std.specs.Prelude.{◌≡◌, ◌≢◌, ◌⊎◌, ◌≤◌, ℕ, B
 use Rattle.std.specs.Borrow.{GName}
 use Rattle.std.specs.Io.KnownBytes.{Appends}
 use Rattle.terms.specs.declared.event.Event.{Event}
+use Rattle.terms.specs.Commits.{Commit}
 use Rattle.terms.specs.Facts as stated
 use Rattle.terms.specs.Sets.{Facts, with_facts}
 use Rattle.graph.specs.Graph.{Graph}
+use Rattle.machine.specs.Machine.{waiting_count}
 use Rattle.machine.specs.State.{AreLegalFrom}
+use Rattle.machine.specs.Status.{NoneIsActive}
 use Rattle.commit.specs.declared.verdict.RunError.{RunError}
 use Rattle.commit.specs.declared.verdict.Verdict.{Verdict}
 use Rattle.commit.specs.declared.verdict.Verdict.TheVariants as came_to
 use Rattle.commit.specs.Calls.{KeepsStore}
 use Rattle.commit.specs.Core.{Core, facts, graph, is_halted}
-use Rattle.commit.specs.Runs.{RunsWithin}
+use Rattle.commit.specs.Runs.{MetFull, RunsWithin, TellsVerdict}
 use Rattle.commit.specs.Went.{GoesOn}
 use Rattle.report.specs.Sinks.{HasJustFailed, StaysCalm}
 use Rattle.script.specs.declared.command.Command.{Command}
@@ -24,12 +27,12 @@ use Rattle.session.specs.declared.error.SessionError.TheVariants.{Write}
 use Rattle.session.specs.declared.reply.Reply.{Reply}
 use Rattle.session.specs.declared.rows.Together.{Together}
 use Rattle.session.specs.declared.rows.Together.TheVariants.{Came, Apart, Halted}
-use Rattle.session.specs.Answers.{Drive, Replies, drive_of}
+use Rattle.session.specs.Answers.{Drive, Replies, TellsBlocked, TellsRun, drive_of}
 use Rattle.session.specs.Fails.{AnswersCommands, AnswersLines}
 use Rattle.session.specs.Replies.{reply_text}
-use Rattle.session.specs.Session.{AreReplies, all_of, ending_from, no_ending, replies_text, stop_of, with_reply}
+use Rattle.session.specs.Session.{AreReplies, IsClosing, all_of, ending_from, no_ending, replies_text, stop_of, with_reply}
 use Rattle.session.specs.Streams.{TellsSink}
-use Rattle.session.specs.Went.{ComeTogether, GoesOnBy, GoesOnByLine, HasCause, put_by}
+use Rattle.session.specs.Went.{ComeTogether, GoesOnBy, GoesOnByLine, HasCause, HasCauseOfRun, put_by}
 
 -- From these facts on the commands `begun` were answered with these replies, and these events came; the session went on, with this ending so far.
 pub record Answered (g : Graph) (drive : Drive) (X : Facts) (begun : List Command) (ending : Ending) (replies : List Reply) (events : List (List Event)) : Type 0 where
@@ -40,6 +43,32 @@ pub record Answered (g : Graph) (drive : Drive) (X : Facts) (begun : List Comman
 abbrev pub went_of : (failed : Bool) → Ending → Result Ending SessionError
 went_of true ending = Err Write
 went_of false ending = Ok ending
+
+module _ {D : Type 0} (core : Core D) where
+  -- ---- the reply to a run that left this core, and returned this verdict
+
+  -- it tells of the run what is so
+  abbrev pub TellsByVerdict : Result Verdict RunError → Reply → Type 0
+  TellsByVerdict verdict reply = (g : Graph) (X : Facts) (from : ℕ) (commits : List Commit) (may_be_asked may_spawn was_halted : Bool) (limit count : ℕ)
+      → TellsVerdict (MetFull g X from commits) may_be_asked may_spawn core limit count verdict → TellsRun (graph core) (drive_of limit may_be_asked may_spawn was_halted) (facts core) count reply
+
+  -- if it says that something failed, that has its cause in the run
+  abbrev pub HasCauseByVerdict : Result Verdict RunError → Reply → Type 0
+  HasCauseByVerdict verdict reply = (g : Graph) (X : Facts) (from : ℕ) (commits : List Commit) (may_be_asked may_spawn : Bool) (limit count : ℕ)
+      → TellsVerdict (MetFull g X from commits) may_be_asked may_spawn core limit count verdict → HasCauseOfRun g X from core commits reply
+
+  -- if it does not end the session, the core is not halted
+  abbrev pub IsOpenByVerdict : Result Verdict RunError → Reply → Type 0
+  IsOpenByVerdict verdict reply = (g : Graph) (X : Facts) (from : ℕ) (commits : List Commit) (may_be_asked may_spawn : Bool) (limit count : ℕ)
+      → TellsVerdict (MetFull g X from commits) may_be_asked may_spawn core limit count verdict → stop_of reply ≡ None → is_halted core ≡ false
+
+  -- where the core is not halted, nothing is left to do and instances wait, the reply lists these, or memory was refused
+  abbrev pub TellsWaiting : Reply → Type 0
+  TellsWaiting reply = is_halted core ≡ false → NoneIsActive core.machine → waiting_count core.machine ≢ 0 → TellsBlocked (graph core) (facts core) reply
+
+  -- the session is closed with this ending, and the report that is due then was written
+  abbrev pub ClosesWith : Ending → (before behind : Option (List ℕ)) → Ending → Type 0
+  ClosesWith ending before behind closed = (closed ≡ ending) × ((text : List ℕ) × IsClosing (graph core) (facts core) ending.stop text × Appends before behind text)
 
 module _ {D : Type 0} (storage : Ghosts D) where
   -- the core went on by these lines, and may go on by more

@@ -10,8 +10,11 @@ use Rattle.script.specs.declared.command.Command.TheVariants.{Run}
 use Rattle.session.specs.declared.progress.Progress.{Progress}
 use Rattle.session.specs.Answers.{Drive, drive_of}
 use Rattle.session.specs.Fails.{AnswersLines}
-use Rattle.session.specs.Lines.{HasRunTo, Stands, went_of}
+use Rattle.session.specs.declared.reply.Reply.{Reply}
+use Rattle.graph.specs.Graph.{Graph}
+use Rattle.session.specs.Lines.{HasRunTo, Stands, TellsReply, TellsReplies, went_of}
 use Rattle.session.specs.Streams.{TellsSink}
+use Rattle.session.specs.Went.{dones}
 
 -- what is left after at least one, and at most `most`, of these commands
 pub record IsBehind (most : ℕ) (commands left : List Command) : Type 0 where
@@ -19,6 +22,19 @@ pub record IsBehind (most : ℕ) (commands left : List Command) : Type 0 where
   pub some : 1 ≤ count
   pub within : count ≤ most
   pub rest : left ≡ drop count commands
+
+-- the session went on, and this was the next line
+abbrev pub TakesLine : Command → (before after : Progress) → Type 0
+TakesLine command before after = (before.failed ≡ false) × (before.ending.stop ≡ None) × (before.left.now ≡ command ∷ after.left.now)
+
+module _ {S : Type 0} (target : S → GName) (has_failed : S → Bool) (contents : S → Option (List ℕ)) where
+  -- if the sink had not failed, the reply was written and counts for the ending, or the sink failed
+  abbrev pub TellsLine : Graph → Command → Reply → (here there : S) → (before after : Progress) → Type 0
+  TellsLine g command reply here there before after = before.failed ≡ false → TellsReply target has_failed contents g command reply here there before.ending after.ending after.failed
+
+  -- the reply `ok` to each of these puts was written and counts for the ending, or the sink failed
+  abbrev pub TellsDone : Graph → List Command → (here there : S) → (before after : Progress) → Type 0
+  TellsDone g commands here there before after = TellsReplies target has_failed contents g commands (dones commands) here there before.ending after.ending after.failed
 
 module _ {D : Type 0} (storage : Ghosts D)
     {S : Type 0} (target : S → GName) (has_failed : S → Bool) (contents : S → Option (List ℕ)) where

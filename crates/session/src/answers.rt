@@ -1,21 +1,17 @@
 //! What a command does in a store, and the reply to it.
-ghost use Rattle.std.specs.Prelude.{◌≡◌, ◌≢◌, ◌↔◌, Bool, List, [], false, true, ℕ, None, IfSome, IsTrue};
+ghost use Rattle.std.specs.Prelude.{◌≡◌, ◌↔◌, List, [], true, None, IfSome};
 ghost use Rattle.session.specs.declared.reply.Reply.TheVariants.{Halted};
 ghost use Rattle.terms.specs.declared.event.Event.TheVariants.{EnvItem, EnvTag};
 ghost use Rattle.terms.specs.declared.event.Event.{Event as Came};
-ghost use Rattle.terms.specs.Commits.{Commit};
-ghost use Rattle.terms.specs.Sets.{Facts};
-ghost use Rattle.graph.specs.Graph.{Graph as OfStore};
-ghost use Rattle.machine.specs.Machine.{RefusesItem, RefusesTag, waiting_count};
-ghost use Rattle.machine.specs.Status.{NoneIsActive};
+ghost use Rattle.machine.specs.Machine.{RefusesItem, RefusesTag};
 ghost use Rattle.commit.specs.Core.{facts, graph, is_halted};
-ghost use Rattle.commit.specs.Runs.{MetFull, NoneRuns, TellsVerdict};
+ghost use Rattle.commit.specs.Runs.{NoneRuns};
 ghost use Rattle.script.specs.declared.command.Command.TheVariants.{Get, Put, Tag as Label};
-ghost use Rattle.session.specs.Answers.{RepliesGet, RepliesPut, TellsBlocked, TellsRun, drive_of, put_reply, reply_of, run_reply};
-ghost use Rattle.session.specs.Lines.{AnswersAtOnce, AnswersVerdict};
+ghost use Rattle.session.specs.Answers.{RepliesGet, RepliesPut, put_reply, reply_of, run_reply};
+ghost use Rattle.session.specs.Lines.{AnswersAtOnce, AnswersVerdict, HasCauseByVerdict, IsOpenByVerdict, TellsByVerdict, TellsWaiting};
 ghost use Rattle.session.specs.Session.{stop_of};
 ghost use Rattle.commit.specs.Went.{GoesOn};
-ghost use Rattle.session.specs.Went.{GoesOnBy, HasCause, HasCauseOfRun};
+ghost use Rattle.session.specs.Went.{GoesOnBy, HasCause};
 
 use crate::reply::Reply;
 use crate::waiting::sort_by_name;
@@ -140,11 +136,9 @@ pub(crate) fn ran<D: Disk>(
 // The reply to a run with this verdict.
 fn told<D: Disk>(alloc: Global, core: &Core<D>, verdict: Result<Verdict, RunError>) -> Reply
     ensures exact { IfSome (run_reply verdict) (λ expected. result ≡ expected) }
-    ensures tells { (g : OfStore) (X : Facts) (from : ℕ) (commits : List Commit) (may_be_asked may_spawn was_halted : Bool) (limit count : ℕ) → TellsVerdict (MetFull g X from commits) may_be_asked may_spawn core.now limit count verdict
-        → TellsRun (graph core.now) (drive_of limit may_be_asked may_spawn was_halted) (facts core.now) count result }
-    ensures cause { (g : OfStore) (X : Facts) (from : ℕ) (commits : List Commit) (may_be_asked may_spawn : Bool) (limit count : ℕ) → TellsVerdict (MetFull g X from commits) may_be_asked may_spawn core.now limit count verdict
-        → HasCauseOfRun g X from core.now commits result }
-    ensures stays { (g : OfStore) (X : Facts) (from : ℕ) (commits : List Commit) (may_be_asked may_spawn : Bool) (limit count : ℕ) → TellsVerdict (MetFull g X from commits) may_be_asked may_spawn core.now limit count verdict → stop_of result ≡ None → is_halted core.now ≡ false }
+    ensures tells { TellsByVerdict core.now verdict result }
+    ensures cause { HasCauseByVerdict core.now verdict result }
+    ensures stays { IsOpenByVerdict core.now verdict result }
 {
     core.is_kept();
     match verdict {
@@ -162,7 +156,7 @@ fn told<D: Disk>(alloc: Global, core: &Core<D>, verdict: Result<Verdict, RunErro
 
 // The reply when nothing is left to do and instances wait. It lists these by the names of their steps, and then by key.
 fn blocked<D: Disk>(alloc: Global, core: &Core<D>) -> Reply
-    ensures { is_halted core.now ≡ false → NoneIsActive core.now.machine → waiting_count core.now.machine ≢ 0 → TellsBlocked (graph core.now) (facts core.now) result }
+    ensures { TellsWaiting core.now result }
 {
     orders_are_total();
     core.is_kept();

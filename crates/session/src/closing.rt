@@ -1,10 +1,7 @@
 //! The end of a session.
-ghost use Rattle.std.specs.Prelude.{◌≡◌, List, Err, IfErr, IfOk, IsTrue, None, ℕ};
-ghost use Rattle.std.specs.Io.KnownBytes.{Appends};
-ghost use Rattle.commit.specs.Core.{facts, graph};
+ghost use Rattle.std.specs.Prelude.{◌≡◌, Err, IfErr, IfOk, None};
 ghost use Rattle.session.specs.Fails.{IsOfOutput};
-ghost use Rattle.session.specs.Lines.{ReportFollows, SinkFollows};
-ghost use Rattle.session.specs.Session.{IsClosing};
+ghost use Rattle.session.specs.Lines.{ClosesWith, ReportFollows, SinkFollows};
 ghost use Rattle.session.specs.Streams.{TellsSink};
 ghost use Rattle.session.specs.declared.error.SessionError.TheVariants.{NoMemory};
 
@@ -37,7 +34,7 @@ fn with_report<D: Disk, O: Sink>(
     ending: Ending,
     out: &mut O,
 ) -> Result<Ending, SessionError>
-    ensures closed { IfOk result (λ closed. (closed ≡ ending) × ((text : List ℕ) × IsClosing (graph core.now) (facts core.now) ending.stop text × Appends (O.contents out.old) (O.contents out.new) text)) }
+    ensures closed { IfOk result (ClosesWith core.now ending (O.contents out.old) (O.contents out.new)) }
     ensures err { IfErr result IsOfOutput }
     ensures unwritten { result ≡ Err NoMemory → (ending.stop ≡ None) × (O.contents out.new ≡ O.contents out.old) }
     ensures sink { TellsSink O.target O.has_failed out.old out.new result }

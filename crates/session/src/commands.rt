@@ -1,10 +1,8 @@
 //! The lines of a script and its report. Who runs the steps has the core while they run; `Progress` has all other lines.
-ghost use Rattle.std.specs.Prelude.{IsTrue, false};
-ghost use Rattle.commit.specs.Core.{is_halted};
+ghost use Rattle.std.specs.Prelude.{false};
 ghost use Rattle.commit.specs.Runs.{NoneRuns};
-ghost use Rattle.pool.specs.Driver.{may_be_asked, may_spawn};
-ghost use Rattle.session.specs.Answers.{drive_of};
-ghost use Rattle.session.specs.Fails.{AnswersCommands};
+ghost use Rattle.session.specs.Answers.{drive_by, drive_of};
+ghost use Rattle.session.specs.Fails.{AnswersAll};
 ghost use Rattle.session.specs.Streams.{TellsSink};
 
 use crate::closing::close;
@@ -32,7 +30,7 @@ pub(crate) fn run_script<D: Disk + Send, O: Sink, H: Threads + Wait + Sync, P: P
 ) -> (Core<D>, Result<Ending, SessionError>)
     requires idle { NoneRuns core }
     ensures idle { NoneRuns result.0 }
-    ensures answers { AnswersCommands D.Disk (drive_of limit (may_be_asked P.may_stop driver.now) (may_spawn driver.now) (is_halted core)) commands.now (O.contents out.old) (O.contents out.new) core result.0 result.1 }
+    ensures answers { AnswersAll D.Disk O.contents (drive_by limit P.may_stop driver.now) commands.now out.old out.new core result.0 result.1 }
     ensures sink { TellsSink O.target O.has_failed out.old out.new result.1 }
 {
     stores_go_on::<D>();
@@ -58,7 +56,7 @@ pub(crate) fn run_script_alone<D: Disk, O: Sink>(
 ) -> (Core<D>, Result<Ending, SessionError>)
     requires idle { NoneRuns core }
     ensures idle { NoneRuns result.0 }
-    ensures answers { AnswersCommands D.Disk (drive_of limit false false (is_halted core)) commands.now (O.contents out.old) (O.contents out.new) core result.0 result.1 }
+    ensures answers { AnswersAll D.Disk O.contents (drive_of limit false false) commands.now out.old out.new core result.0 result.1 }
     ensures sink { TellsSink O.target O.has_failed out.old out.new result.1 }
 {
     stores_go_on::<D>();

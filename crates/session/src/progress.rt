@@ -1,9 +1,9 @@
 //! How far the lines of a script are.
-ghost use Rattle.std.specs.Prelude.{◌≡◌, ◌∷◌, ◌<◌, ◌≤◌, [], None, false, true, length, take, IfSome, IsTrue};
+ghost use Rattle.std.specs.Prelude.{◌≡◌, ◌<◌, ◌≤◌, [], None, false, true, length, take, IfSome};
 ghost use Rattle.std.specs.List.{AllByRecursion};
 ghost use Rattle.commit.specs.Runs.{NoneRuns};
 ghost use Rattle.session.specs.declared.rows.TheConstants.{MOST_LINES};
-ghost use Rattle.session.specs.Went.{Puts, dones};
+ghost use Rattle.session.specs.Went.{Puts};
 
 use crate::answers::{answer, ran};
 use crate::reply::{NamedReply, Reply};
@@ -32,8 +32,8 @@ pub(crate) struct Progress<'a> {
 }
 
 impl<'a> Progress<'a> {
-    ghost use Rattle.session.specs.Lines.{TellsReplies, TellsReply, went_of};
-    ghost use Rattle.session.specs.Progress.{AnswersRun, IsBehind, KeepsStanding, ReachesRun};
+    ghost use Rattle.session.specs.Lines.{went_of};
+    ghost use Rattle.session.specs.Progress.{AnswersRun, IsBehind, KeepsStanding, ReachesRun, TakesLine, TellsDone, TellsLine};
     ghost use Rattle.session.specs.Session.{no_ending};
 
     /// No line of a script is answered.
@@ -163,7 +163,7 @@ impl<'a> Progress<'a> {
 
     // Takes the next line, unless the session has ended.
     fn next(&mut self) -> Option<&'a Command>
-        ensures some { IfSome result (λ command. (self.old.failed ≡ false) × (self.old.ending.stop ≡ None) × (self.old.left.now ≡ command.now ∷ self.new.left.now)) }
+        ensures some { IfSome result (λ command. TakesLine command.now self.old self.new) }
         ensures none { result ≡ None → self.old.failed ≡ false → self.old.ending.stop ≡ None → self.old.left.now ≡ [] }
         ensures same { (self.new.ending ≡ self.old.ending) × (self.new.failed ≡ self.old.failed) }
     {
@@ -185,7 +185,7 @@ impl<'a> Progress<'a> {
     // Writes the reply to a command.
     fn reply<O: Sink>(&mut self, graph: &Graph, command: Command, reply: &Reply, out: &mut O)
         ensures left { self.new.left.now ≡ self.old.left.now }
-        ensures tells { self.old.failed ≡ false → TellsReply O.target O.has_failed O.contents graph.now command reply.now out.old out.new self.old.ending self.new.ending self.new.failed }
+        ensures tells { TellsLine O.target O.has_failed O.contents graph.now command reply.now out.old out.new self.old self.new }
     {
         let named = NamedReply { graph, reply };
         match out.send(named) {
@@ -198,7 +198,7 @@ impl<'a> Progress<'a> {
     fn reply_done<O: Sink>(&mut self, graph: &Graph, commands: &[Command], out: &mut O)
         requires going { self.old.failed ≡ false }
         ensures left { self.new.left.now ≡ self.old.left.now }
-        ensures tells { TellsReplies O.target O.has_failed O.contents graph.now commands.now (dones commands.now) out.old out.new self.old.ending self.new.ending self.new.failed }
+        ensures tells { TellsDone O.target O.has_failed O.contents graph.now commands.now out.old out.new self.old self.new }
     {
         for command in commands {
             let done = Reply::Done;

@@ -1,11 +1,9 @@
 //! A script, from its bytes to its replies.
-ghost use Rattle.std.specs.Prelude.{IfErr, IfOk, IsTrue, List, false, ℕ};
+ghost use Rattle.std.specs.Prelude.{IfErr, IfOk, false};
 ghost use Rattle.script.specs.Script.{IsScript};
-ghost use Rattle.commit.specs.Core.{is_halted};
 ghost use Rattle.commit.specs.Runs.{NoneRuns};
-ghost use Rattle.pool.specs.Driver.{may_be_asked, may_spawn};
-ghost use Rattle.session.specs.Answers.{drive_of};
-ghost use Rattle.session.specs.Fails.{Answers, FailsToRead, IsAllOf, IsRefusedAs};
+ghost use Rattle.session.specs.Answers.{drive_by, drive_of};
+ghost use Rattle.session.specs.Fails.{AnswersInput, FailsToRead, IsRefusedAs, ReadsScript};
 ghost use Rattle.session.specs.Streams.{TellsSink, TellsSource};
 
 use crate::commands::{run_script, run_script_alone};
@@ -41,7 +39,7 @@ pub fn session<D: Disk + Send, S: Source, O: Sink, H: Threads + Wait + Sync, P: 
 ) -> (Core<D>, Result<Ending, SessionError>)
     requires idle { NoneRuns core }
     ensures idle { NoneRuns result.0 }
-    ensures answers { Answers D.Disk (drive_of limit (may_be_asked P.may_stop driver.now) (may_spawn driver.now) (is_halted core)) (S.remaining input.old) (O.contents out.old) (O.contents out.new) core result.0 result.1 }
+    ensures answers { AnswersInput D.Disk O.contents (drive_by limit P.may_stop driver.now) (S.remaining input.old) out.old out.new core result.0 result.1 }
     ensures source { TellsSource S.has_failed input.old input.new result.1 }
     ensures sink { TellsSink O.target O.has_failed out.old out.new result.1 }
 {
@@ -64,7 +62,7 @@ pub fn session_alone<D: Disk, S: Source, O: Sink>(
 ) -> (Core<D>, Result<Ending, SessionError>)
     requires idle { NoneRuns core }
     ensures idle { NoneRuns result.0 }
-    ensures answers { Answers D.Disk (drive_of limit false false (is_halted core)) (S.remaining input.old) (O.contents out.old) (O.contents out.new) core result.0 result.1 }
+    ensures answers { AnswersInput D.Disk O.contents (drive_of limit false false) (S.remaining input.old) out.old out.new core result.0 result.1 }
     ensures source { TellsSource S.has_failed input.old input.new result.1 }
     ensures sink { TellsSink O.target O.has_failed out.old out.new result.1 }
 {
@@ -80,7 +78,7 @@ fn read_script<S: Source>(
     graph: &Graph,
     input: &mut S,
 ) -> Result<Vec<Command>, SessionError>
-    ensures read { IfOk result (λ commands. (script : List ℕ) × IsAllOf (S.remaining input.old) script × IsScript graph.now script commands.items) }
+    ensures read { IfOk result (λ commands. ReadsScript graph.now (S.remaining input.old) commands.items) }
     ensures fails { IfErr result (FailsToRead graph.now (S.remaining input.old)) }
     ensures source { TellsSource S.has_failed input.old input.new result }
 {
