@@ -1,5 +1,5 @@
 -- A deque of tickets: what was pushed with each of its handles, what came out to each, and what it holds.
-use Rattle.std.specs.Prelude.{◌≡◌, ◌+◌, ◌≤◌, ◌==◌, ℕ, List, cond}
+use Rattle.std.specs.Prelude.{◌≡◌, ◌+◌, ◌≤◌, ◌==◌, ◌++◌, ◌∷◌, [], ℕ, List, cond}
 use Rattle.std.specs.List.{sum_by}
 use Rattle.crossbeam_deque.specs.Handles.{worker_view}
 use Rattle.instances.specs.declared.ticket.Ticket.{Ticket}
@@ -38,3 +38,11 @@ pushed deque = (logged deque).pushed
 
 abbrev pub came : Deque → List Ticket
 came deque = (logged deque).came
+
+-- a ticket was pushed with it
+abbrev pub TakesIn : Deque → Deque → Ticket → Type 0
+TakesIn old new ticket = logged new ≡ log (pushed old ++ ticket ∷ []) (came old)
+
+-- a ticket came out to it
+abbrev pub GivesOut : Deque → Deque → Ticket → Type 0
+GivesOut old new ticket = logged new ≡ log (pushed old) (came old ++ ticket ∷ [])

@@ -22,8 +22,8 @@ pub struct Thief {
 }
 
 impl Deque {
-    ghost use Rattle.std.specs.Prelude.{◌≡◌, ◌++◌, ◌∷◌, [], IfErr, IfOk, MatchOption, OnOk};
-    ghost use Rattle.deques.specs.Deque.{came, log, logged, pushed};
+    ghost use Rattle.std.specs.Prelude.{◌≡◌, [], IfErr, IfOk, MatchOption, OnOk};
+    ghost use Rattle.deques.specs.Deque.{GivesOut, TakesIn, log, logged};
 
     /// An empty deque.
     pub fn new(alloc: Global) -> Result<Deque, AllocError>
@@ -41,7 +41,7 @@ impl Deque {
 
     /// Puts a ticket behind the others. If the deque cannot grow, it comes back.
     pub fn push(&mut self, ticket: Ticket) -> Result<(), Ticket>
-        ensures ok { OnOk result (logged self.new ≡ log (pushed self.old ++ ticket ∷ []) (came self.old)) }
+        ensures ok { OnOk result (TakesIn self.old self.new ticket) }
         ensures back { IfErr result (λ back. (back ≡ ticket) × (logged self.new ≡ logged self.old)) }
     {
         self.worker.push_as::<Pushed>(ticket)
@@ -49,7 +49,7 @@ impl Deque {
 
     /// Takes the first ticket out, if there is one.
     pub fn pop(&mut self) -> Option<Ticket>
-        ensures { MatchOption result (logged self.new ≡ logged self.old) (λ ticket. logged self.new ≡ log (pushed self.old) (came self.old ++ ticket ∷ [])) }
+        ensures { MatchOption result (logged self.new ≡ logged self.old) (GivesOut self.old self.new) }
     {
         self.worker.pop_as::<Came>()
     }

@@ -28,9 +28,17 @@ durable_after side (call ∷ calls) durable = durable_after side calls (if is_si
 abbrev pub durable_of : List Call → Side → Durable
 durable_of calls side = durable_after side calls (settled [])
 
+-- the file whose reads give these bytes, after these calls
+abbrev pub file_after : List ℕ → List Call → Side → File
+file_after content calls side = record { content = content; durable = durable_of calls side }
+
 -- the files whose reads give these bytes, after these calls
 abbrev pub files_after : List ℕ → List ℕ → List Call → Side → File
-files_after a b calls side = record { content = pick a b side; durable = durable_of calls side }
+files_after a b calls side = file_after (pick a b side) calls side
+
+-- a call that failed to make this change
+abbrev pub failed : Side → Change → Call
+failed side change = record { side = side; change = change; failed = true }
 
 -- a call that was begun and ended with an error: the device failed and the call is recorded, or the record could not grow
 abbrev pub Kept : DiskError → Call → List Call → List Call → Type 0

@@ -80,6 +80,14 @@ Changes done touches (Ok _) old new = new ≡ done old
 Changes done touches (Err Device) old new = Fails touches old new
 Changes done touches (Err NoMemory) old new = FailsWithin touches old new
 
+-- what a write of these bytes at a position does
+abbrev pub Writes : {T : Type 0} → ℕ → List ℕ → Result T DiskError → File → File → Type 0
+Writes at bytes result old new = Changes (written at bytes) (write_touches old.durable at (length bytes)) result old new
+
+-- what a cut to so many bytes does
+abbrev pub Cuts : {T : Type 0} → ℕ → Result T DiskError → File → File → Type 0
+Cuts count result old new = Changes (cut count) (cut_touches count) result old new
+
 -- what a sync does to its file, by its result: a sync that fails clears nothing
 abbrev pub Syncs : {T : Type 0} → Result T DiskError → File → File → Type 0
 Syncs (Ok _) old new = new ≡ at_rest old.content

@@ -1,5 +1,5 @@
 ghost use Rattle.std.specs.Prelude.{◌≡◌, IfOk};
-ghost use Rattle.disk.specs.Calls.{durable_of};
+ghost use Rattle.disk.specs.Calls.{durable_of, file_after};
 ghost use Rattle.disk.specs.Choice.{chosen, painted};
 ghost use Rattle.disk.specs.File.{AreBytes};
 
@@ -27,7 +27,7 @@ pub(crate) fn choose(
     content: &[u8],
     choice: Choice,
 ) -> Result<Vec<u8>, AllocError>
-    ensures chosen { IfOk result (λ bytes. bytes.items ≡ chosen choice (record { content = content.now; durable = durable_of calls.now side })) }
+    ensures chosen { IfOk result (λ bytes. bytes.items ≡ chosen choice (file_after content.now calls.now side)) }
     ensures bytes { IfOk result (λ bytes. AreBytes bytes.items) }
 {
     match choice {

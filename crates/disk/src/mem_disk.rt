@@ -1,9 +1,10 @@
-ghost use Rattle.std.specs.Prelude.{◌≡◌, ◌≤◌, [], take, length, vec_len, IsTrue, ◌↔◌, OnOk, OnErr, IfOk, IfErr, IsOk};
+ghost use Rattle.std.specs.Prelude.{◌≡◌, ◌≤◌, [], take, length, vec_len, ◌↔◌, OnOk, OnErr, IfOk, IfErr, IsOk};
 ghost use Rattle.disk.specs.declared.side.Side.{Side};
 ghost use Rattle.disk.specs.Side.{ChangesSide, pick};
 ghost use Rattle.disk.specs.File.{MayLeave, overwritten};
 ghost use Rattle.disk.specs.Calls.{durable_of};
 ghost use Rattle.disk.specs.Crash.{crashed};
+ghost use Rattle.disk.specs.MemDisk.{OverwritesSide};
 
 use crate::choice::choose;
 use crate::crash::may_leave;
@@ -193,7 +194,7 @@ fn write_side(
     bytes: &[u8],
 ) -> Result<(), AllocError>
     requires { at ≤ length (pick a.old.items b.old.items side) }
-    ensures ok { OnOk result (ChangesSide side (λ old. overwritten old at bytes.now) (pick a.old.items b.old.items) (pick a.new.items b.new.items)) }
+    ensures ok { OnOk result (OverwritesSide side at bytes.now (pick a.old.items b.old.items) (pick a.new.items b.new.items)) }
     ensures err { OnErr result ((each : Side) → pick a.new.items b.new.items each ≡ pick a.old.items b.old.items each) }
 {
     match side {

@@ -34,7 +34,7 @@ pub(crate) struct Record {
 }
 
 impl Record {
-    ghost use Rattle.disk.specs.Calls.{Kept};
+    ghost use Rattle.disk.specs.Calls.{Kept, failed};
 
     /// No calls so far, and no call that is to fail.
     pub(crate) fn new(alloc: Global) -> Self
@@ -74,7 +74,7 @@ impl Record {
         ensures change { IfOk result (λ kept. kept ≡ change) }
         ensures room { IfOk result (λ _. vec_len self.new.calls < vec_capacity self.new.calls) }
         ensures ok { IfOk result (λ _. self.new.calls.items ≡ self.old.calls.items) }
-        ensures err { IfErr result (λ error. Kept error (record { side = side; change = change; failed = true }) self.old.calls.items self.new.calls.items) }
+        ensures err { IfErr result (λ error. Kept error (failed side change) self.old.calls.items self.new.calls.items) }
     {
         let Ok(()) = self.calls.reserve(1) else {
             return self.refuse();

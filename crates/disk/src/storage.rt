@@ -1,6 +1,6 @@
-ghost use Rattle.std.specs.Prelude.{◌≡◌, ◌≤◌, ◌↔◌, ◌+◌, ℕ, Bool, IsTrue, List, length, take, drop, IfOk, OnOk};
+ghost use Rattle.std.specs.Prelude.{◌≡◌, ◌≤◌, ◌↔◌, ◌+◌, ℕ, Bool, IsTrue, length, take, drop, IfOk, OnOk};
 ghost use Rattle.disk.specs.declared.side.Side.{Side};
-ghost use Rattle.disk.specs.File.{File, MayLeave, Changes, Syncs, written, cut, write_touches, cut_touches};
+ghost use Rattle.disk.specs.File.{File, MayLeave, Writes, Cuts, Syncs};
 ghost use Rattle.disk.specs.Time.{Contents, MayLeaveNow, OtherStays, Elapses, HasCause, CountsRefusal};
 
 use crate::{DiskError, Side};
@@ -47,7 +47,7 @@ pub trait Disk {
     /// Writes over what is there from a position on, and past the end.
     fn write_at(&mut self, side: Side, at: u64, bytes: &[u8]) -> Result<(), DiskError>
         requires { IsTrue is_honest → at ≤ length (files self.old side).content }
-        ensures file { IsTrue is_honest → Changes (written at bytes.now) (write_touches (files self.old side).durable at (length bytes.now)) result (files self.old side) (files self.new side) }
+        ensures file { IsTrue is_honest → Writes at bytes.now result (files self.old side) (files self.new side) }
         ensures other { IsTrue is_honest → OtherStays side (files self.old) (files self.new) }
         ensures time { IsTrue is_honest → Elapses (moment self.old) (moment self.new) (left_at self.old) (left_at self.new) }
         ensures cause { HasCause (failures self.old) (failures self.new) result }
@@ -56,7 +56,7 @@ pub trait Disk {
     /// Cuts a file to its first `count` bytes.
     fn cut(&mut self, side: Side, count: u64) -> Result<(), DiskError>
         requires { IsTrue is_honest → count ≤ length (files self.old side).content }
-        ensures file { IsTrue is_honest → Changes (cut count) (cut_touches count) result (files self.old side) (files self.new side) }
+        ensures file { IsTrue is_honest → Cuts count result (files self.old side) (files self.new side) }
         ensures other { IsTrue is_honest → OtherStays side (files self.old) (files self.new) }
         ensures time { IsTrue is_honest → Elapses (moment self.old) (moment self.new) (left_at self.old) (left_at self.new) }
         ensures cause { HasCause (failures self.old) (failures self.new) result }

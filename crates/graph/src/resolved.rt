@@ -1,7 +1,7 @@
-ghost use Rattle.std.specs.Prelude.{◌≡◌, [], MatchResult};
+ghost use Rattle.std.specs.Prelude.{MatchResult};
 ghost use Rattle.graph.specs.Faults.{tree_faults};
 ghost use Rattle.graph.specs.Placed.{IsFirst};
-ghost use Rattle.graph.specs.Resolved.{IsResolved};
+ghost use Rattle.graph.specs.Resolved.{Resolves};
 ghost use Rattle.graph.specs.Small.{IsSmall};
 
 use crate::declarations::{Collections, declare_all};
@@ -22,7 +22,7 @@ pub(crate) struct Resolved<'a> {
 /// The collections and the relations of a tree; or its first fault by position, leaving aside the bodies of its steps.
 pub(crate) fn resolve<'a>(alloc: Global, tree: &Tree<'a>) -> Result<Resolved<'a>, PlacedFault>
     requires { IsSmall tree.now }
-    ensures { MatchResult result (λ resolved. (tree_faults tree.now ≡ []) × IsResolved tree.now resolved) (IsFirst (tree_faults tree.now)) }
+    ensures { MatchResult result (Resolves tree.now) (IsFirst (tree_faults tree.now)) }
 {
     let (items, tags) = declare_all(alloc, &tree.declarations)?;
     let steps = number_steps(alloc, &tree.steps)?;

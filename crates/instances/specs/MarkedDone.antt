@@ -2,10 +2,10 @@
 use Rattle.std.specs.Prelude.{◌≡◌, ℕ, ℤ, ◌<◌, Bool, true, false, not, List, length, get_or, Option, Some, None, IfSome}
 use Rattle.std.specs.declared.cmp.Ordering.{Ordering}
 use Rattle.std.specs.Option.{option_map}
-use Rattle.std.specs.FinMap.{FinMap, empty, get}
+use Rattle.std.specs.FinMap.{FinMap, empty, entries, get}
 use Rattle.terms.specs.Key.{key_cmp}
 use Rattle.terms.specs.declared.name.Inst.{Inst}
-use Rattle.maps.specs.Marked.{Marked, MarkedPlaces}
+use Rattle.maps.specs.Marked.{AreUnmarked, Marked, MarkedPlaces}
 use Rattle.instances.specs.declared.standing.Standing.{Standing}
 use Rattle.instances.specs.declared.standing.Standing.TheVariants as stands
 use Rattle.instances.specs.declared.state.State.{State}
@@ -60,6 +60,10 @@ LeftAreDone {K} marks = (key : K) (standing : Standing) → get marks key ≡ So
 -- each is marked unless it is done
 abbrev pub AreSettled : FinMap key_cmp Standing → Marked Standing → Type 0
 AreSettled standings marks = (key : List ℤ) → get marks key ≡ option_map (λ standing. (standing, not (is_over standing))) (get standings key)
+
+-- where these are all instances, and none of them was marked, those that are not done are marked
+abbrev pub MarksOthers : List (List ℤ × Standing) → Marked Standing → Marked Standing → Type 0
+MarksOthers all old new = (standings : FinMap key_cmp Standing) → all ≡ entries standings → AreUnmarked standings old → AreSettled standings new
 
 -- these are the marks of those that are done, and none of them is marked
 pub record MarksDone (states : FinMap key_cmp State) (marks : Marked Standing) : Type 0 where

@@ -1,5 +1,5 @@
 -- Tickets: each names an instance that was ready when it was handed out, under a number of its own.
-use Rattle.std.specs.Prelude.{◌≡◌, ◌≤◌, ◌+◌, ◌^◌, ℕ, suc, ⊤, List, [], ◌∷◌, ◌++◌, length, Option, Some, None}
+use Rattle.std.specs.Prelude.{◌≡◌, ◌↔◌, ◌≤◌, ◌+◌, ◌^◌, ℕ, Bool, true, suc, ⊤, List, [], ◌∷◌, ◌++◌, length, Option, Some, None}
 use Rattle.std.specs.List.{AllByRecursion}
 use Rattle.instances.specs.declared.state.State.TheVariants.{Ready}
 use Rattle.instances.specs.declared.ticket.Ticket.{Ticket}
@@ -27,6 +27,10 @@ pub record HandsOut (known : Known) (before after : ℕ) (old new : List Ticket)
   pub numbered : AreNumbered before more
   pub drawn : after ≡ before + length more
   pub ready : AllByRecursion (IsReady known) more
+
+-- the same, and it is said whether the last number was drawn
+abbrev pub HandsOutUntil : Known → ℕ → ℕ → List Ticket → List Ticket → Bool → Type 0
+HandsOutUntil known before after old new over = HandsOut known before after old new × ((over ≡ true) ↔ (after ≡ 2 ^ 64))
 
 -- one such ticket is added
 pub record AddsTicket (known : Known) (before after : ℕ) (old new : List Ticket) : Type 0 where

@@ -1,10 +1,7 @@
 //! Marks at the instances that are done.
 ghost use Rattle.std.specs.Prelude.{◌≡◌, IfOk, cond};
-ghost use Rattle.std.specs.FinMap.{FinMap, entries};
-ghost use Rattle.terms.specs.Key.{key_cmp};
-ghost use Rattle.maps.specs.Marked.{AreUnmarked, with_mark};
-ghost use Rattle.instances.specs.declared.standing.Standing.{Standing as Stands};
-ghost use Rattle.instances.specs.MarkedDone.{AreDoneMarks, AreSettled, is_over as ended};
+ghost use Rattle.maps.specs.Marked.{with_mark};
+ghost use Rattle.instances.specs.MarkedDone.{AreDoneMarks, MarksOthers, is_over as ended};
 
 use crate::standing::Standing;
 use crate::step::Step;
@@ -31,7 +28,7 @@ pub(crate) fn done_maps(
 
 /// Marks the instances that are not done, given a walk along all of them.
 pub(crate) fn mark_others(marks: &mut MarkedMap<'_, Standing>, walk: KeyWalk<'_, Standing>)
-    ensures { (standings : FinMap key_cmp Stands) → walk.entry ≡ entries standings → AreUnmarked standings marks.old → AreSettled standings marks.new }
+    ensures { MarksOthers walk.entry marks.old marks.new }
 {
     let mut hint = Hint::new();
     for (key, standing) in walk {

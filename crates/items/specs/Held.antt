@@ -1,12 +1,12 @@
 -- What `Items` holds: a finite map of items that only grows, with room for more, and the instances that wait at addresses.
 use Rattle.std.specs.Prelude.{◌≡◌, ℕ, ℤ, ◌<◌, List, [], ◌∷◌, ◌++◌, length, Option, None, IsSomeAnd}
 use Rattle.std.specs.Option.{unwrap_or}
-use Rattle.std.specs.FinMap.{FinMap, get, insert, remove}
+use Rattle.std.specs.FinMap.{FinMap, empty, get, insert, remove}
 use Rattle.terms.specs.declared.name.Addr.{Addr}
 use Rattle.terms.specs.declared.name.Inst.{Inst}
 use Rattle.terms.specs.declared.name.ItemCollection.{ItemCollection}
 use Rattle.terms.specs.declared.producer.Producer.{Producer}
-use Rattle.maps.specs.Numbered.{Numbered, Place, place_cmp, room_at}
+use Rattle.maps.specs.Numbered.{Numbered, Place, none_held, place_cmp, room_at}
 use Rattle.items.specs.declared.error.PutError.{PutError}
 use Rattle.items.specs.declared.error.PutError.TheVariants.{AlreadyPut, NoMemory}
 
@@ -22,6 +22,10 @@ address_at at = record { collection = record { 0 = at.0 }; key = at.1 }
 pub record Held : Type 0 where
   pub items : Numbered (ℤ × Producer)
   pub waiting : FinMap place_cmp (List Inst)
+
+-- no items, and no room for any, of so many collections
+abbrev pub no_items : ℕ → Held
+no_items collections = record { items = none_held collections; waiting = empty }
 
 -- the item at an address, if there is one
 abbrev pub item_at : Held → Addr → Option (ℤ × Producer)

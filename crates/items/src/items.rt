@@ -36,8 +36,9 @@ impl Model for Items {
 }
 
 impl Items {
-    ghost use Rattle.std.specs.Prelude.{◌+◌, ◌*◌, ◌/◌, ◌<◌, ◌≤◌, ◌-◌, ◌^◌, ℕ, false, IfOk, IfErr, OnOk, OnErr, length, map, min, replicate};
-    ghost use Rattle.std.specs.FinMap.{empty, entries};
+    ghost use Rattle.std.specs.Prelude.{◌+◌, ◌*◌, ◌/◌, ◌<◌, ◌≤◌, ◌-◌, ◌^◌, false, IfOk, IfErr, OnOk, OnErr, length, map, min};
+    ghost use Rattle.std.specs.FinMap.{entries};
+    ghost use Rattle.maps.specs.Keyed.{ComparesFew};
     ghost use Rattle.maps.specs.Marked.{AreUnmarked};
     ghost use Rattle.maps.specs.Numbered.{of_number, AddsAt, OnlyMakesRoom};
     ghost use Rattle.items.specs.Held.{
@@ -48,6 +49,7 @@ impl Items {
       address_at,
       IsOfCollection,
       IsRefused,
+      no_items,
       with_waiter,
       without_waiters,
     };
@@ -56,7 +58,7 @@ impl Items {
     /// Holds no items yet, for this number of collections.
     pub fn new(alloc: Global, collections: usize) -> Result<Self, AllocError>
         requires { collections ≤ 2 ^ 16 }
-        ensures { IfOk result (λ held. held ≡ record { items = record { items = empty; room = replicate collections 0 }; waiting = empty }) }
+        ensures { IfOk result (λ held. held ≡ no_items collections) }
     {
         Ok(Items {
             items: CollectionMap::new(alloc, collections)?,
@@ -83,7 +85,7 @@ impl Items {
     /// has a number of items with `d` binary digits, it does so at most `d * (d + 1) / 2` times.
     pub fn find(&self, addr: Addr, steps: &mut Steps) -> Option<(i64, Producer)>
         ensures item { result ≡ item_at self.now addr }
-        ensures cost { (digits : ℕ) → length (of_number addr.collection.0 (entries self.now.items.items)) < 2 ^ digits → steps.new ≤ steps.old + digits * (digits + 1) / 2 }
+        ensures cost { ComparesFew (length (of_number addr.collection.0 (entries self.now.items.items))) steps.old steps.new }
         ensures more { steps.old ≤ steps.new }
     {
         let key = addr.key;

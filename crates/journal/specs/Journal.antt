@@ -1,5 +1,5 @@
 -- A journal on a file, and what a crash during an append may leave of it.
-use Rattle.std.specs.Prelude.{◌≡◌, ◌⊎◌, ◌+◌, ◌↔◌, ℕ, List, [], ◌∷◌, ◌++◌, length, replicate, take, drop, All, Result, OnOk, OnErr, IsErrOf}
+use Rattle.std.specs.Prelude.{◌≡◌, ◌⊎◌, ◌+◌, ◌↔◌, ℕ, List, [], ◌∷◌, ◌++◌, length, replicate, take, drop, All, Result, IfOk, OnOk, OnErr, IsErrOf}
 use Rattle.disk.specs.declared.storage.Disk.{Ghosts}
 use Rattle.disk.specs.File.{at_rest, overwritten}
 use Rattle.disk.specs.Time.{OtherStays, OtherMayBe}
@@ -16,6 +16,10 @@ use Rattle.journal.specs.WholeRecords.{BeginsWithNone}
 pub record IsAt (journal : Journal) (start : ℕ) (content : List ℕ) (payloads : List (List ℕ)) : Type 0 where
   pub stands : StandsFor (drop start content) payloads
   pub end : journal.end ≡ start + length (records payloads)
+
+-- what is found is all that these bytes stand for
+abbrev pub FindsAll : {J E : Type 0} → List ℕ → Result (J × List (List ℕ)) E → Type 0
+FindsAll bytes result = (payloads : List (List ℕ)) → StandsFor bytes payloads → IfOk result (λ found. found.1 ≡ payloads)
 
 -- a file stands for the payloads before an append, or for these and then all that it adds, and the bytes in front of the journal
 -- are as they were

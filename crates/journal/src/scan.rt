@@ -1,8 +1,7 @@
-ghost use Rattle.std.specs.Prelude.{◌≡◌, ◌≢◌, ◌≤◌, ◌<◌, ◌+◌, ◌^◌, ◌↔◌, ℕ, List, drop, vec_len, IsTrue, IfOk, IsErrOf};
+ghost use Rattle.std.specs.Prelude.{◌≡◌, ◌≢◌, ◌<◌, ◌+◌, ◌^◌, ℕ, drop, vec_len, IsTrue, IfOk, IsErrOf};
 ghost use Rattle.disk.specs.declared.side.Side.{Side};
 ghost use Rattle.disk.specs.Storage.{KeepsFiles, ReportsAs};
 ghost use Rattle.disk.specs.Time.{HasCause};
-ghost use Rattle.journal.specs.Records.{StandsFor};
 ghost use Rattle.journal.specs.declared.error.JournalError.TheVariants.{Device, NoMemory, Damaged, Full};
 ghost use Rattle.disk.specs.declared.error.DiskError.TheVariants as DiskError;
 
@@ -12,7 +11,7 @@ use disk::{Disk, DiskError, Side};
 use std::alloc::Global;
 
 impl Journal {
-    ghost use Rattle.journal.specs.Journal.{IsAt, IsBroken};
+    ghost use Rattle.journal.specs.Journal.{FindsAll, IsAt, IsBroken};
 
     /// Reads the journal that begins at a position of a file, and the payloads of its records.
     ///
@@ -26,7 +25,7 @@ impl Journal {
         at: u64,
     ) -> Result<(Journal, Payloads), JournalError>
         ensures found { IsTrue D.is_honest → IfOk result (λ r. IsAt r.0 at (D.files disk.old side).content r.1) }
-        ensures only { IsTrue D.is_honest → (payloads : List (List ℕ)) → StandsFor (drop at (D.files disk.old side).content) payloads → IfOk result (λ r. r.1 ≡ payloads) }
+        ensures only { IsTrue D.is_honest → FindsAll (drop at (D.files disk.old side).content) result }
         ensures side { IfOk result (λ r. r.0.side ≡ side) }
 
         // It returns `Damaged` exactly if the bytes stand for no payloads.

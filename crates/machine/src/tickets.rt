@@ -5,9 +5,9 @@ use std::alloc::AllocError;
 use terms::{facts_are_told_apart, orders_are_total};
 
 impl Machine {
-    ghost use Rattle.std.specs.Prelude.{◌≡◌, ◌↔◌, ◌<◌, ◌^◌, IfOk, IfSome, None, OnErr, Some, true};
+    ghost use Rattle.std.specs.Prelude.{◌≡◌, ◌<◌, IfOk, IfSome, None, OnErr, Some};
     ghost use Rattle.instances.specs.declared.state.State.TheVariants.{Ready, Running};
-    ghost use Rattle.instances.specs.Tickets.{HandsOut};
+    ghost use Rattle.instances.specs.Tickets.{HandsOutUntil};
     ghost use Rattle.graph.specs.Fits.{HasNoFault};
     ghost use Rattle.machine.specs.Machine.{Moves, facts, ready_count, state_of};
 
@@ -19,7 +19,7 @@ impl Machine {
         tickets: &mut Vec<Ticket>,
     ) -> Result<bool, AllocError>
         ensures same { self.new ≡ self.old }
-        ensures ok { IfOk result (λ over. HandsOut self.old.memory.instances numbers.old numbers.new tickets.old.items tickets.new.items × ((over ≡ true) ↔ (numbers.new ≡ 2 ^ 64))) }
+        ensures ok { IfOk result (HandsOutUntil self.old.memory.instances numbers.old numbers.new tickets.old.items tickets.new.items) }
         ensures refused { OnErr result ((numbers.new ≡ numbers.old) × (tickets.new.items ≡ tickets.old.items)) }
     {
         if self.memory.fault.is_some() {

@@ -1,5 +1,5 @@
 -- A map from keys, with room for more entries.
-use Rattle.std.specs.Prelude.{◌≡◌, ℕ, ℤ, ◌+◌, ◌<◌, ◌≤◌, List, length, get_or, set, Some, None}
+use Rattle.std.specs.Prelude.{◌≡◌, ℕ, ℤ, ◌+◌, ◌*◌, ◌/◌, ◌^◌, ◌<◌, ◌≤◌, List, length, get_or, set, Some, None}
 use Rattle.std.specs.List.{insert as add}
 use Rattle.std.specs.FinMap.{FinMap, empty, get, insert, find, put}
 use Rattle.terms.specs.Key.{key_cmp}
@@ -12,6 +12,10 @@ pub record Keyed (X : Type 0) : Type 0 where
 -- no entries, and no room
 abbrev pub none : {X : Type 0} → Keyed X
 none = record { items = empty; room = 0 }
+
+-- how many comparisons a search takes: with so many entries, of `d` binary digits, at most `d * (d + 1) / 2`
+abbrev pub ComparesFew : ℕ → ℕ → ℕ → Type 0
+ComparesFew count old new = (digits : ℕ) → count < 2 ^ digits → new ≤ old + digits * (digits + 1) / 2
 
 -- there was no entry with the key, and now there is this one; if there was room, it is one less
 pub record Adds {X : Type 0} (old new : Keyed X) (key : List ℤ) (value : X) : Type 0 where

@@ -1,9 +1,9 @@
 -- A map from the keys of several collections, each with its number.
-use Rattle.std.specs.Prelude.{◌≡◌, ◌≢◌, ℕ, suc, ℤ, ◌+◌, ◌<◌, ◌≤◌, ◌==◌, List, [], ◌∷◌, ◌++◌, map, length, get_or, None}
+use Rattle.std.specs.Prelude.{◌≡◌, ◌≢◌, ℕ, suc, ℤ, ◌+◌, ◌<◌, ◌≤◌, ◌==◌, List, [], ◌∷◌, ◌++◌, map, length, get_or, replicate, None}
 use Rattle.std.specs.declared.cmp.Ordering.{Ordering}
 use Rattle.std.specs.List.{filter}
 use Rattle.std.specs.Ordering.{nat_cmp, ordering_then}
-use Rattle.std.specs.FinMap.{FinMap, entries, get, insert}
+use Rattle.std.specs.FinMap.{FinMap, empty, entries, get, insert}
 use Rattle.terms.specs.Key.{key_cmp}
 use Rattle.maps.specs.Keyed.{Keyed}
 
@@ -19,6 +19,10 @@ place_cmp a b = ordering_then (nat_cmp a.0 b.0) (key_cmp a.1 b.1)
 pub record Numbered (X : Type 0) : Type 0 where
   pub items : FinMap place_cmp X
   pub room : List ℕ
+
+-- no entries, and no room, for so many collections
+abbrev pub none_held : {X : Type 0} → ℕ → Numbered X
+none_held count = record { items = empty; room = replicate count 0 }
 
 -- how many more entries of a collection there is room for
 abbrev pub room_at : {X : Type 0} → Numbered X → ℕ → ℕ

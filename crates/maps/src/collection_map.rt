@@ -31,9 +31,10 @@ impl<V: Stored> Model for CollectionMap<V> {
 }
 
 impl<V: Stored> CollectionMap<V> {
-    ghost use Rattle.std.specs.Prelude.{◌≡◌, ◌<◌, ◌≤◌, ◌+◌, ◌-◌, ◌*◌, ◌/◌, ◌^◌, ℕ, IfOk, IfErr, IsSome, OnOk, OnErr, length, min, replicate};
+    ghost use Rattle.std.specs.Prelude.{◌≡◌, ◌<◌, ◌≤◌, ◌+◌, ◌-◌, ◌*◌, ◌/◌, ◌^◌, IfOk, IfErr, OnOk, OnErr, length, min, replicate};
     ghost use Rattle.std.specs.FinMap.{empty, entries, get, insert};
     ghost use Rattle.maps.specs.Insertion.{IsRefused};
+    ghost use Rattle.maps.specs.Keyed.{ComparesFew};
     ghost use Rattle.maps.specs.Marked.{AreUnmarked};
     ghost use Rattle.maps.specs.Numbered.{of_number, room_at, AddsAt, OnlyMakesRoom};
 
@@ -65,7 +66,7 @@ impl<V: Stored> CollectionMap<V> {
     /// of entries with `d` binary digits, it does so at most `d * (d + 1) / 2` times.
     pub fn find(&self, number: u16, key: &Key, steps: &mut Steps) -> Option<V>
         ensures value { result ≡ get self.now.items (number, key.now) }
-        ensures cost { (digits : ℕ) → length (of_number number (entries self.now.items)) < 2 ^ digits → steps.new ≤ steps.old + digits * (digits + 1) / 2 }
+        ensures cost { ComparesFew (length (of_number number (entries self.now.items))) steps.old steps.new }
         ensures more { steps.old ≤ steps.new }
     {
         match self.collections.get(number as usize) {

@@ -26,10 +26,10 @@ impl<V: Stored> Model for KeyMap<V> {
 }
 
 impl<V: Stored> KeyMap<V> {
-    ghost use Rattle.std.specs.Prelude.{◌≡◌, ◌+◌, ◌*◌, ◌/◌, ◌^◌, ◌<◌, ◌≤◌, ℕ, IfErr, IfOk, OnOk, OnErr, length};
+    ghost use Rattle.std.specs.Prelude.{◌≡◌, ◌+◌, ◌*◌, ◌/◌, ◌<◌, ◌≤◌, IfErr, IfOk, OnOk, OnErr, length};
     ghost use Rattle.std.specs.FinMap.{entries, get};
     ghost use Rattle.maps.specs.Insertion.{IsRefused};
-    ghost use Rattle.maps.specs.Keyed.{none, Adds};
+    ghost use Rattle.maps.specs.Keyed.{none, Adds, ComparesFew};
     ghost use Rattle.maps.specs.Marked.{AreUnmarked};
 
     /// A map without entries and without room.
@@ -59,7 +59,7 @@ impl<V: Stored> KeyMap<V> {
     /// with `d` binary digits, it does so at most `d * (d + 1) / 2` times.
     pub fn find(&self, key: &Key, steps: &mut Steps) -> Option<V>
         ensures value { result ≡ get self.now.items key.now }
-        ensures cost { (digits : ℕ) → length (entries self.now.items) < 2 ^ digits → steps.new ≤ steps.old + digits * (digits + 1) / 2 }
+        ensures cost { ComparesFew (length (entries self.now.items)) steps.old steps.new }
         ensures more { steps.old ≤ steps.new }
     {
         self.pages.value(self.pages.find(key, steps))

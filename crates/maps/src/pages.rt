@@ -61,6 +61,7 @@ impl<V: Stored> Pages<V> {
     ghost use Rattle.std.specs.FinMap.{find, is_sorted, put};
     ghost use Rattle.terms.specs.Key.{key_cmp};
     ghost use Rattle.maps.specs.declared.page.TheConstants.{PAGE};
+    ghost use Rattle.maps.specs.Keyed.{ComparesFew};
     ghost use Rattle.maps.specs.Paged.{GoesBehind, AreLess, GoesInto, IsFound, IsInPage, IsPageFor, all_of, first_key, last_page, page_at};
 
     /// No entries, and no room.
@@ -129,7 +130,7 @@ impl<V: Stored> Pages<V> {
     /// Where the key is, or where it would go. It counts its comparisons.
     pub fn find(&self, key: &Key, steps: &mut Steps) -> Found
         ensures found { IsFound self.now.pages key.now result }
-        ensures cost { (digits : ℕ) → length (all_of self.now.pages) < 2 ^ digits → steps.new ≤ steps.old + digits * (digits + 1) / 2 }
+        ensures cost { ComparesFew (length (all_of self.now.pages)) steps.old steps.new }
         ensures more { steps.old ≤ steps.new }
         ensures sorted { T (is_sorted key_cmp (all_of self.now.pages)) }
     {

@@ -1,5 +1,5 @@
 -- What the seats of a table know.
-use Rattle.std.specs.Prelude.{◌+◌, ℕ, Bool, true, false, List, [], ◌∷◌, ◌++◌, length, Option, Some, None, if◌then◌else◌, nat_eq}
+use Rattle.std.specs.Prelude.{◌≡◌, ◌+◌, ℕ, Bool, true, false, List, [], ◌∷◌, ◌++◌, length, Option, Some, None, if◌then◌else◌, nat_eq}
 use Rattle.terms.specs.Commits.{Commit, events_of}
 
 -- A pass: its number, the commits that it has seen, those that were made with it, the last result of `commits` for it, whether it asked for a stop, and
@@ -60,6 +60,10 @@ first_desk = record { book = record { history = []; passes = 0 }; guest = None }
 -- the pass has seen the whole history
 abbrev pub up_to_date : List Made → Known → Known
 up_to_date history known = record known { seen = commits history }
+
+-- these views are that of a pass that has seen the whole history of the desk
+abbrev pub HasSeenAll : Desk → List SeatView → Known → Type 0
+HasSeenAll d views known = views ≡ pass (up_to_date d.book.history known) ∷ []
 
 -- one commit more was made with it
 abbrev pub with_commit : Commit → Known → Known

@@ -1,5 +1,5 @@
-ghost use Rattle.std.specs.Prelude.{◌≡◌, ◌+◌, ◌<◌, ◌≤◌, ◌^◌, [], ◌∷◌, None, IfSome, IsSome, length, true};
-ghost use Rattle.passes.specs.Known.{pass, commits, count_of, newcomer, alone, hosting, one_more, up_to_date, writing, told_of, asked_of, heard_of};
+ghost use Rattle.std.specs.Prelude.{◌≡◌, ◌+◌, ◌<◌, ◌^◌, [], ◌∷◌, None, IfSome, IsSome, length, true};
+ghost use Rattle.passes.specs.Known.{HasSeenAll, pass, commits, count_of, newcomer, alone, hosting, one_more, writing, told_of, asked_of, heard_of};
 ghost use Rattle.passes.specs.Steps.{IsBadge, IsCompared, IsCountFor, known};
 
 use crate::rule::{Adds, Asks, Committing, Counts, Hears, Learns, Lends, Makes, Words};
@@ -46,7 +46,7 @@ impl<J: Naming> Board<J> {
     pub(crate) fn give_back(&self, desk: &mut Desk<J>) -> Badge<View>
         requires { IsSome desk.old.guest }
         ensures desk { desk.new ≡ alone desk.old }
-        ensures pass { (result.table_id ≡ J.table) × IfSome desk.old.guest (λ guest. result.views ≡ pass (up_to_date desk.old.book.history guest) ∷ []) }
+        ensures pass { (result.table_id ≡ J.table) × IfSome desk.old.guest (HasSeenAll desk.old result.views) }
     {
         self.words
             .shared
