@@ -1,12 +1,12 @@
 -- Room that is made in one step after another.
-use Rattle.std.proofs.Common.{◌≡◌, ◌≢◌, ◌∙◌, ap, sym, refl, subst, ℕ, zero, suc, ◌<◌, ◌≤◌, ◌^◌, ◌==◌, min, ℤ, Bool, true, false, cond, List, [], ◌∷◌, map, take, set, length, get_or, replicate, slice_get, Option, Some, None, option_map, is_some, Result, Ok, Err, OnErr, arith}
+use Rattle.std.proofs.Common.{◌≡◌, ◌≢◌, ◌∙◌, ap, sym, refl, subst, ℕ, zero, suc, ◌<◌, ◌≤◌, ◌^◌, ◌==◌, min, ℤ, Bool, true, false, cond, List, [], ◌∷◌, map, take, set, length, get_or, slice_get, Option, Some, None, option_map, is_some, Result, Ok, Err, OnErr, arith}
 use mathlib.Core.Bool.{false≢true}
 use Rattle.std.specs.Option.{unwrap_or}
 use Rattle.std.specs.FinMap.{empty, get, get-empty}
 use Rattle.std.proofs.lemmas.List.{length-map}
 use Rattle.terms.specs.Key.{key_cmp}
 use Rattle.terms.specs.declared.name.TagCollection.{TagCollection}
-use Rattle.maps.specs.Numbered.{Numbered, place_cmp, room_at, OnlyMakesRoom as TagsMakeRoom}
+use Rattle.maps.specs.Numbered.{Numbered, none_held, place_cmp, room_at, OnlyMakesRoom as TagsMakeRoom}
 use Rattle.instances.specs.declared.step.Step.{Step}
 use Rattle.instances.specs.Known.{fresh_step, state_in, prescriber_in, least, ArePrescribed, OnlyMakesRoom, GrownStep, AllGrown, AllHaveRoom}
 use Rattle.instances.proofs.Prescribing.{least_of_step, same_number}
@@ -129,7 +129,7 @@ makes_room collection tags new_tags olds news room grown = record {
 
 -- ---- without tags
 
-pub fresh_prescribed : (tags : ℕ) (prescribers : List TagCollection) → length prescribers ≤ 2 ^ 16 → (length (map fresh_step prescribers) ≤ 2 ^ 16) × ArePrescribed (record { items = empty; room = replicate tags 0 }) (map fresh_step prescribers)
+pub fresh_prescribed : (tags : ℕ) (prescribers : List TagCollection) → length prescribers ≤ 2 ^ 16 → (length (map fresh_step prescribers) ≤ 2 ^ 16) × ArePrescribed (none_held tags) (map fresh_step prescribers)
 fresh_prescribed tags prescribers few =
     (omega (arith, few, length-map prescribers fresh_step), λ number step key there. by_prescriber number step key (slice_get prescribers number) (sym (mapped_get fresh_step prescribers number) ∙ there))
   where

@@ -1,5 +1,5 @@
 -- The tags that are there, and the instances that they prescribe.
-use Rattle.std.specs.Prelude.{◌≡◌, ◌≢◌, ℕ, ℤ, ◌+◌, ◌-◌, ◌==◌, ◌<◌, ◌≤◌, min, Bool, false, cond, ◌&&◌, List, [], ◌∷◌, map, replicate, length, slice_get, Option, Some, None, is_some, ⊤}
+use Rattle.std.specs.Prelude.{◌≡◌, ◌≢◌, ℕ, ℤ, ◌+◌, ◌-◌, ◌==◌, ◌<◌, ◌≤◌, min, Bool, false, cond, ◌&&◌, List, [], ◌∷◌, map, length, slice_get, Option, Some, None, is_some, ⊤}
 use Rattle.std.specs.List.{sum_by}
 use Rattle.std.specs.Ordering.{eq_by_cmp}
 use Rattle.std.specs.FinMap.{empty, get, insert}
@@ -7,7 +7,7 @@ use Rattle.terms.specs.Key.{key_cmp}
 use Rattle.terms.specs.declared.name.Inst.{Inst}
 use Rattle.terms.specs.declared.name.Tag.{Tag}
 use Rattle.terms.specs.declared.name.TagCollection.{TagCollection}
-use Rattle.maps.specs.Numbered.{Numbered, Place, AddsAt, room_at}
+use Rattle.maps.specs.Numbered.{Numbered, Place, AddsAt, none_held, room_at}
 use Rattle.instances.specs.declared.state.State.{State}
 use Rattle.instances.specs.declared.state.State.TheVariants.{Ready}
 use Rattle.instances.specs.declared.step.Step.{Step}
@@ -102,7 +102,7 @@ fresh_step prescriber = record { prescriber = prescriber; instances = record { s
 
 -- `tags` tag collections without tags, and a step without instances for each of the prescribing collections
 abbrev pub fresh : ℕ → List TagCollection → Known
-fresh tags prescribers = record { tags = record { items = empty; room = replicate tags 0 }; steps = map fresh_step prescribers }
+fresh tags prescribers = record { tags = none_held tags; steps = map fresh_step prescribers }
 
 -- there may be more room for a collection, and nothing else has changed
 pub record OnlyMakesRoom (old new : Known) (collection : TagCollection) : Type 0 where

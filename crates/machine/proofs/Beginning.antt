@@ -1,10 +1,10 @@
 -- What a store of a graph holds before the first event.
-use Rattle.std.proofs.Common.{◌≡◌, ◌∙◌, ap, sym, refl, subst, ℕ, ℤ, ◌+◌, Bool, true, false, List, [], ◌∷◌, ◌++◌, length, map, take, replicate, slice_get, Option, Some, None, is_some, option_map}
+use Rattle.std.proofs.Common.{◌≡◌, ◌∙◌, ap, sym, refl, subst, ℕ, ℤ, ◌+◌, Bool, true, false, List, [], ◌∷◌, ◌++◌, length, map, take, slice_get, Option, Some, None, is_some, option_map}
 use Rattle.std.proofs.lemmas.Bool.{false≢true}
 use Rattle.std.proofs.lemmas.List.{length-replicate, map-append, take_more}
 use Rattle.std.proofs.lemmas.Option.{get_or_from_slice_get, slice_get-map, slice_get_within}
 use Rattle.std.specs.Option.{unwrap_or}
-use Rattle.std.specs.FinMap.{empty, get, get-empty}
+use Rattle.std.specs.FinMap.{get, get-empty}
 use Rattle.terms.specs.Key.{key_cmp}
 use Rattle.terms.specs.declared.name.Addr.{Addr}
 use Rattle.terms.specs.declared.name.Inst.{Inst}
@@ -14,7 +14,7 @@ use Rattle.terms.specs.declared.producer.Producer.TheVariants.{Env, By}
 use Rattle.terms.specs.Facts.{Fact, tag, item, done, bad}
 use Rattle.maps.specs.Numbered.{place_cmp}
 use Rattle.graph.specs.Graph.{Graph, Step, IsGraph}
-use Rattle.items.specs.Held.{Held, place}
+use Rattle.items.specs.Held.{Held, no_items, place}
 use Rattle.items.specs.Once.{IsOnceEach, is_one_of}
 use Rattle.instances.specs.declared.step.Step.{Step as Prescribed}
 use Rattle.instances.specs.declared.state.State.{State}
@@ -24,10 +24,6 @@ use Rattle.machine.specs.declared.memory.Memory.{Memory}
 use Rattle.holdings.specs.ImageLaws.{is_item}
 use Rattle.machine.specs.Memory.{is_done, facts_of, environment_of, prescriber_of, waits_at, IsOf}
 use Rattle.machine.specs.Creation.{HoldsNothing}
-
--- no items, for this number of collections
-abbrev pub no_items : ℕ → Held
-no_items count = record { items = record { items = empty; room = replicate count 0 }; waiting = empty }
 
 abbrev pub nothing : Graph → List TagCollection → Memory
 nothing g prescribers = record { items = no_items (length g.items); instances = fresh (length g.tags) prescribers; fault = None }

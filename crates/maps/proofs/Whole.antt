@@ -4,7 +4,7 @@ use Rattle.std.specs.FinMap.{empty, entries, get, get-empty, same_map}
 use Rattle.std.proofs.lemmas.List.{map-set, get_or-set_same, get_or-set_other, length-set, length-map}
 use Rattle.maps.specs.Insertion.{IsRefused}
 use Rattle.maps.specs.Keyed.{Keyed, Adds, none}
-use Rattle.maps.specs.Numbered.{Numbered, place_cmp, KeepsOtherRoom, AddsAt, OnlyMakesRoom, all_from}
+use Rattle.maps.specs.Numbered.{Numbered, none_held, place_cmp, KeepsOtherRoom, AddsAt, OnlyMakesRoom, all_from}
 use Rattle.maps.specs.PlaceOrder.{places_total, same_places}
 use Rattle.maps.specs.declared.error.InsertError.{InsertError}
 use Rattle.maps.specs.declared.error.InsertError.TheVariants.{Taken, NoMemory}
@@ -73,7 +73,7 @@ pub of_collection : {X : Type 0} → (maps : List (Keyed X)) (now : Numbered X) 
 of_collection {X} maps now number is within = omega (arith, within, ap (λ seen. length seen.room) is, length-map maps (λ (m : Keyed X). m.room))
 
 -- several empty collections hold nothing
-pub none_seen : {X : Type 0} → (count : ℕ) → seen_numbered {X = X} (replicate count none) ≡ record { items = empty; room = replicate count 0 }
+pub none_seen : {X : Type 0} → (count : ℕ) → seen_numbered {X = X} (replicate count none) ≡ none_held count
 none_seen {X} count = λ i. record { items = no_items i; room = no_room count i }
   where
     empty_at : (count number : ℕ) (key : List ℤ) → item_of {X = X} (slice_get (replicate count none) number) key ≡ None
