@@ -1,7 +1,6 @@
 ghost use Rattle.std.specs.Prelude.{IfOk};
-ghost use Rattle.codec.specs.Image.{environment_in, facts_in};
 ghost use Rattle.graph.specs.Fits.{FitsState};
-ghost use Rattle.holdings.specs.Holdings.{HavePutNumbers, IsFor, image_of};
+ghost use Rattle.holdings.specs.Holdings.{HavePutNumbers, IsFor, image_of, facts_held, environment_held};
 ghost use Rattle.machine.specs.Restored.{Restores};
 
 use crate::Core;
@@ -40,7 +39,7 @@ impl<D: Disk> Core<D> {
     fn recovered(alloc: Global, recovered: Recovered<D>) -> Result<Core<D>, Refused<D>>
         requires sound { IsSound recovered.graph recovered.holdings recovered.vault.generation recovered.vault.journal.end recovered.vault.text.items }
         requires working { recovered.vault.halted ≡ false }
-        requires holds { IsTrue D.is_honest → Holds D.files recovered.vault recovered.graph (environment_in (image_of recovered.holdings)) (facts_in (image_of recovered.holdings)) }
+        requires holds { IsTrue D.is_honest → Holds D.files recovered.vault recovered.graph (environment_held recovered.holdings) (facts_held recovered.holdings) }
         ensures opened { IfOk result IsOpened }
         ensures lists { IfOk result (IsCoreOf recovered) }
         ensures disk { disk_of result ≡ recovered.vault.disk }
@@ -73,7 +72,7 @@ impl<D: Disk> Core<D> {
 
 // The state in memory of a store of this graph, which takes over what was read.
 fn restored(alloc: Global, graph: Graph, holdings: Holdings) -> Result<Machine, AllocError>
-    requires fits { FitsState graph (environment_in (image_of holdings)) (facts_in (image_of holdings)) }
+    requires fits { FitsState graph (environment_held holdings) (facts_held holdings) }
     requires numbered { HavePutNumbers holdings }
     requires collections { IsFor graph holdings }
     ensures { IfOk result (Restores graph (image_of holdings)) }

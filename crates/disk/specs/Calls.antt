@@ -1,5 +1,5 @@
 -- What a record of calls says of the two files: what is durable now, and what a crash at a moment may have left.
-use Rattle.std.specs.Prelude.{◌≡◌, ◌↔◌, ℕ, List, [], ◌∷◌, ◌++◌, length, take, if◌then◌else◌, count_by}
+use Rattle.std.specs.Prelude.{◌≡◌, ◌↔◌, ℕ, List, [], ◌∷◌, ◌++◌, length, take, if◌then◌else◌, count_by, true}
 use Rattle.std.proofs.Common.{sym, subst, arith}
 use Rattle.std.proofs.lemmas.List.{take_all}
 use Rattle.disk.specs.declared.side.Side.{Side}
@@ -8,8 +8,8 @@ use Rattle.disk.specs.declared.error.DiskError.TheVariants.{Device, NoMemory}
 use Rattle.disk.specs.declared.record.Call.{Call}
 use Rattle.disk.specs.declared.record.Change.{Change}
 use Rattle.disk.specs.declared.record.Change.TheVariants.{Nothing, Write, Cut, Sync}
-use Rattle.disk.specs.Side.{is_side, pick}
-use Rattle.disk.specs.File.{Durable, File, MayLeave, settled, touching, write_touches, cut_touches}
+use Rattle.disk.specs.Side.{is_side, pick, ChangesSide}
+use Rattle.disk.specs.File.{Durable, File, MayLeave, settled, touching, write_touches, cut_touches, overwritten}
 use Rattle.disk.specs.Time.{Contents}
 
 -- what a change does to the durable state of its file
@@ -35,6 +35,10 @@ file_after content calls side = record { content = content; durable = durable_of
 -- the files whose reads give these bytes, after these calls
 abbrev pub files_after : List ℕ → List ℕ → List Call → Side → File
 files_after a b calls side = file_after (pick a b side) calls side
+
+-- bytes are written over what one side has, from a position on
+abbrev pub OverwritesSide : Side → ℕ → List ℕ → (Side → List ℕ) → (Side → List ℕ) → Type 0
+OverwritesSide side at bytes old new = ChangesSide side (λ held. overwritten held at bytes) old new
 
 -- a call that failed to make this change
 abbrev pub failed : Side → Change → Call

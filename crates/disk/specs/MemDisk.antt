@@ -1,19 +1,14 @@
 -- A disk in memory, seen as the files of a disk.
-use Rattle.std.specs.Prelude.{ℕ, List}
 use Rattle.disk.specs.declared.side.Side.{Side}
 use Rattle.disk.specs.declared.mem_disk.MemDisk.{MemDisk}
 use Rattle.disk.specs.declared.mem_disk.Fill.{Fill}
-use Rattle.disk.specs.Side.{ChangesSide, pick}
-use Rattle.disk.specs.File.{File, MayLeave, overwritten}
+use Rattle.disk.specs.Side.{pick}
+use Rattle.disk.specs.File.{File, MayLeave}
 use Rattle.disk.specs.Time.{Contents}
 use Rattle.disk.specs.Calls.{files_after}
 
 abbrev pub files_of : MemDisk → Side → File
 files_of disk = files_after disk.a.items disk.b.items disk.history.calls.items
-
--- bytes are written over what one side has, from a position on
-abbrev pub OverwritesSide : Side → ℕ → List ℕ → (Side → List ℕ) → (Side → List ℕ) → Type 0
-OverwritesSide side at bytes old new = ChangesSide side (λ held. overwritten held at bytes) old new
 
 -- the contents that a crash is to leave
 abbrev pub fill_of : Fill → Contents

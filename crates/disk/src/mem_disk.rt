@@ -2,9 +2,8 @@ ghost use Rattle.std.specs.Prelude.{◌≡◌, ◌≤◌, [], take, length, vec_
 ghost use Rattle.disk.specs.declared.side.Side.{Side};
 ghost use Rattle.disk.specs.Side.{ChangesSide, pick};
 ghost use Rattle.disk.specs.File.{MayLeave, overwritten};
-ghost use Rattle.disk.specs.Calls.{durable_of};
+ghost use Rattle.disk.specs.Calls.{durable_of, OverwritesSide};
 ghost use Rattle.disk.specs.Crash.{crashed};
-ghost use Rattle.disk.specs.MemDisk.{OverwritesSide};
 
 use crate::choice::choose;
 use crate::crash::may_leave;

@@ -16,6 +16,8 @@ use Rattle.instances.specs.Known.{inst_place, tag_place}
 use Rattle.graph.specs.Graph.{Graph}
 use Rattle.holdings.specs.declared.parts.Parts.{Parts}
 use Rattle.holdings.specs.Listing.{items_of, tags_of, insts_of}
+use Rattle.codec.specs.Image.{environment_in, facts_in}
+use Rattle.terms.specs.Sets.{Facts}
 
 -- how many collections of items and of tags there are, and how many steps
 pub record Counts : Type 0 where
@@ -37,6 +39,13 @@ pub record Holdings : Type 0 where
 -- the image that lists what is held
 abbrev pub image_of : Holdings → Image
 image_of h = record { fault = h.fault; items = items_of (entries h.items); tags = tags_of (entries h.tags); done = insts_of (entries h.done) }
+
+-- the facts that are held, and those that the environment put
+abbrev pub facts_held : Holdings → Facts
+facts_held h = facts_in (image_of h)
+
+abbrev pub environment_held : Holdings → Facts
+environment_held h = environment_in (image_of h)
 
 -- the number of each put that is held is one that a put may have
 abbrev pub HavePutNumbers : Holdings → Type 0

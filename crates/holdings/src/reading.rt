@@ -6,18 +6,22 @@ use std::alloc::{AllocError, Global};
 use terms::{Addr, Inst, MAX_COMPONENTS, Producer, Tag};
 
 impl Holdings {
-    ghost use Rattle.std.specs.Prelude.{◌≡◌, ◌⊎◌, ◌<◌, Err, IfErr, IfOk, IfSome, Ok, Option};
+    ghost use Rattle.std.specs.Prelude.{◌≡◌, Err, IfErr, IfOk, IfSome, Ok};
     ghost use Rattle.std.specs.FinMap.{empty};
-    ghost use Rattle.terms.specs.Name.{inst_cmp};
-    ghost use Rattle.terms.specs.declared.fault.FaultKind.{FaultKind as Kind};
-    ghost use Rattle.terms.specs.declared.name.Inst.{Inst as Instance};
     ghost use Rattle.terms.specs.declared.key.TheConstants.{MAX_COMPONENTS};
-    ghost use Rattle.codec.specs.declared.error.CodecError.TheVariants.{NoMemory};
-    ghost use Rattle.codec.specs.declared.image.Image.{Image};
-    ghost use Rattle.codec.specs.Entries.{item_cmp, marked_cmp};
-    ghost use Rattle.codec.specs.Reading.{decoded_image, image_fault, instance, item, list, marked};
-    ghost use Rattle.holdings.specs.Holdings.{AreWithin, IsFor, image_of, with_ended, with_fault, with_items, with_tags, HavePutNumbers};
-    ghost use Rattle.holdings.specs.Reading.{FindsImage, ListIsHeld, NoneIsHeld};
+    ghost use Rattle.codec.specs.Reading.{decoded_image, image_fault};
+    ghost use Rattle.holdings.specs.Holdings.{AreWithin, IsFor, image_of, HavePutNumbers};
+    ghost use Rattle.holdings.specs.Reading.{
+      FaultIsHeld,
+      FindsImage,
+      InstancesAreDone,
+      ItemsAreHeld,
+      NoInstancesAreDone,
+      NoItemsAreHeld,
+      NoTagsAreHeld,
+      NoneIsWithin,
+      TagsAreHeld,
+    };
 
     /// What the image that these bytes spell lists. It returns `None` if they spell no image, or if a name of it is of no collection or step of the
     /// graph. An error says that memory was refused.
@@ -42,7 +46,7 @@ impl Holdings {
         ensures image { IfOk result (λ h. decoded_image MAX_COMPONENTS bytes.now ≡ Ok (image_of h)) }
         ensures graph { IfOk result (IsFor graph.now) }
         ensures within { IfOk result (λ h. AreWithin graph.now (image_of h)) }
-        ensures none { IfErr result (λ error. (error ≡ NoMemory) ⊎ ((image : Image) → decoded_image MAX_COMPONENTS bytes.now ≡ Ok image → AreWithin graph.now image → ⊥)) }
+        ensures none { IfErr result (NoneIsWithin graph.now bytes.now) }
     {
         image_is_spelled(bytes, MAX_COMPONENTS);
         let mut holdings = Holdings::new(alloc, graph)?;
@@ -58,7 +62,7 @@ impl Holdings {
 
     // Reads the instance at fault with which these bytes begin, if there is one, and returns the bytes after it.
     fn read_stop<'a>(&mut self, bytes: &'a [u8]) -> Result<&'a [u8], CodecError>
-        ensures held { IfOk result (λ rest. (fault : Option (Instance × Kind)) × (image_fault MAX_COMPONENTS bytes.now ≡ Ok (fault, rest.now)) × (self.new ≡ with_fault self.old fault)) }
+        ensures held { IfOk result (λ rest. FaultIsHeld bytes.now self.old self.new rest.now) }
         ensures none { IfErr result (λ error. image_fault MAX_COMPONENTS bytes.now ≡ Err error) }
     {
         match read_fault(bytes, MAX_COMPONENTS) {
@@ -74,8 +78,8 @@ impl Holdings {
     fn read_items<'a>(&mut self, count: usize, bytes: &'a [u8]) -> Result<&'a [u8], CodecError>
         requires empty { self.old.items ≡ empty }
         requires counted { count ≡ self.old.counts.items }
-        ensures held { IfOk result (λ rest. ListIsHeld (λ it. it.0.collection.0 < count) (with_items self.old) (list item_cmp (item MAX_COMPONENTS) bytes.now) self.new rest.now) }
-        ensures none { IfErr result (NoneIsHeld (λ it. it.0.collection.0 < count) (list item_cmp (item MAX_COMPONENTS) bytes.now)) }
+        ensures held { IfOk result (λ rest. ItemsAreHeld count bytes.now self.old self.new rest.now) }
+        ensures none { IfErr result (NoItemsAreHeld count bytes.now) }
     {
         let mut list = ListReader::<(Addr, i64, Producer)>::new(bytes, MAX_COMPONENTS)?;
         while let Some((address, value, producer)) = list.next()? {
@@ -91,8 +95,8 @@ impl Holdings {
     fn read_tags<'a>(&mut self, count: usize, bytes: &'a [u8]) -> Result<&'a [u8], CodecError>
         requires empty { self.old.tags ≡ empty }
         requires counted { count ≡ self.old.counts.tags }
-        ensures held { IfOk result (λ rest. ListIsHeld (λ marked. marked.0.collection.0 < count) (with_tags self.old) (list marked_cmp (marked MAX_COMPONENTS) bytes.now) self.new rest.now) }
-        ensures none { IfErr result (NoneIsHeld (λ marked. marked.0.collection.0 < count) (list marked_cmp (marked MAX_COMPONENTS) bytes.now)) }
+        ensures held { IfOk result (λ rest. TagsAreHeld count bytes.now self.old self.new rest.now) }
+        ensures none { IfErr result (NoTagsAreHeld count bytes.now) }
     {
         let mut list = ListReader::<(Tag, bool)>::new(bytes, MAX_COMPONENTS)?;
         while let Some((name, mark)) = list.next()? {
@@ -108,8 +112,8 @@ impl Holdings {
     fn read_done<'a>(&mut self, count: usize, bytes: &'a [u8]) -> Result<&'a [u8], CodecError>
         requires empty { self.old.done ≡ empty }
         requires counted { count ≡ self.old.counts.steps }
-        ensures held { IfOk result (λ rest. ListIsHeld (λ instance. instance.collection.0 < count) (with_ended self.old) (list inst_cmp (instance MAX_COMPONENTS) bytes.now) self.new rest.now) }
-        ensures none { IfErr result (NoneIsHeld (λ instance. instance.collection.0 < count) (list inst_cmp (instance MAX_COMPONENTS) bytes.now)) }
+        ensures held { IfOk result (λ rest. InstancesAreDone count bytes.now self.old self.new rest.now) }
+        ensures none { IfErr result (NoInstancesAreDone count bytes.now) }
     {
         let mut list = ListReader::<Inst>::new(bytes, MAX_COMPONENTS)?;
         while let Some(instance) = list.next()? {

@@ -1,3 +1,5 @@
+ghost use Rattle.holdings.specs.Holdings.{facts_held, environment_held};
+
 use crate::Machine;
 use crate::creation::prescribers_of;
 use crate::memory::Memory;
@@ -14,7 +16,6 @@ impl Machine {
     ghost use Rattle.std.specs.Prelude.{IfOk};
     ghost use Rattle.std.specs.List.{AllByRecursion};
     ghost use Rattle.graph.specs.Fits.{FitsState};
-    ghost use Rattle.codec.specs.Image.{environment_in, facts_in};
     ghost use Rattle.codec.specs.Spelling.{HasPutNumber};
     ghost use Rattle.holdings.specs.Holdings.{IsFor, image_of};
     ghost use Rattle.machine.specs.Restored.{Restores};
@@ -26,7 +27,7 @@ impl Machine {
         graph: Arc<Graph>,
         holdings: Holdings,
     ) -> Result<Self, AllocError>
-        requires fits { FitsState graph.value (environment_in (image_of holdings)) (facts_in (image_of holdings)) }
+        requires fits { FitsState graph.value (environment_held holdings) (facts_held holdings) }
         requires numbered { AllByRecursion HasPutNumber (image_of holdings).items }
         requires collections { IsFor graph.value holdings }
         ensures { IfOk result (Restores graph.value (image_of holdings)) }
@@ -47,14 +48,13 @@ impl Memory {
     ghost use Rattle.std.specs.Prelude.{IfOk};
     ghost use Rattle.std.specs.List.{AllByRecursion};
     ghost use Rattle.graph.specs.Fits.{FitsState};
-    ghost use Rattle.codec.specs.Image.{environment_in, facts_in};
     ghost use Rattle.codec.specs.Spelling.{HasPutNumber};
     ghost use Rattle.holdings.specs.Holdings.{IsFor, image_of};
     ghost use Rattle.machine.specs.Restoring.{IsRestored};
 
     // What a store of this graph holds after it took over what was read.
     fn of_holdings(alloc: Global, graph: &Graph, holdings: Holdings) -> Result<Self, AllocError>
-        requires fits { FitsState graph.now (environment_in (image_of holdings)) (facts_in (image_of holdings)) }
+        requires fits { FitsState graph.now (environment_held holdings) (facts_held holdings) }
         requires numbered { AllByRecursion HasPutNumber (image_of holdings).items }
         requires collections { IsFor graph.now holdings }
         ensures { IfOk result (IsRestored graph.now (image_of holdings)) }

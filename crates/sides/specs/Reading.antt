@@ -8,7 +8,7 @@ use Rattle.codec.specs.declared.image.Image.{Image}
 use Rattle.codec.specs.Commits.{commit_bytes, IsCommit}
 use Rattle.codec.specs.Spelling.{SpellsImage}
 use Rattle.codec.specs.Image.{image_facts, image_environment, facts_in, environment_in}
-use Rattle.holdings.specs.Holdings.{HavePutNumbers, Holdings, IsFor, image_of}
+use Rattle.holdings.specs.Holdings.{HavePutNumbers, Holdings, IsFor, image_of, facts_held, environment_held}
 use Rattle.journal.specs.Records.{StandsFor, records}
 use Rattle.graph.specs.Graph.{Graph}
 use Rattle.graph.specs.Canonical.{canonical}
@@ -59,13 +59,13 @@ pub record IsReplayed (g : Graph) (old new : Holdings) (bytes : List ℕ) (end :
   pub commits : List Commit
   pub are : AreCommits g (image_of old) bytes commits
   pub ends : end ≡ length (records (map commit_bytes commits))
-  pub facts : (fact : Fact) → facts_in (image_of new) fact ≡ among (image_facts (image_of old) ++ facts (events_of commits)) fact
-  pub environment : (fact : Fact) → environment_in (image_of new) fact ≡ among (image_environment (image_of old) ++ environment (events_of commits)) fact
+  pub facts : (fact : Fact) → facts_held new fact ≡ among (image_facts (image_of old) ++ facts (events_of commits)) fact
+  pub environment : (fact : Fact) → environment_held new fact ≡ among (image_environment (image_of old) ++ environment (events_of commits)) fact
   pub counts : new.counts ≡ old.counts
 
 -- the side's bytes stand for what was read from them, the text is its graph's, and the journal begins and ends at the positions given
 pub record IsRead (bytes : List ℕ) (generation : ℕ) (standing : Standing) : Type 0 where
-  pub is_side : IsSide bytes standing.graph generation (environment_in (image_of standing.holdings)) (facts_in (image_of standing.holdings))
+  pub is_side : IsSide bytes standing.graph generation (environment_held standing.holdings) (facts_held standing.holdings)
   pub starts : standing.start ≡ start_of is_side
   pub ends : standing.end ≡ end_of is_side
   pub text : standing.text.items ≡ canonical standing.graph

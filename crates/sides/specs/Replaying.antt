@@ -6,8 +6,8 @@ use Rattle.terms.specs.Facts.{Fact, facts, environment}
 use Rattle.terms.specs.Sets.{among}
 use Rattle.codec.specs.declared.image.Image.{Image}
 use Rattle.codec.specs.Commits.{commit_bytes, IsCommit, SpellsCommit}
-use Rattle.codec.specs.Image.{image_facts, image_environment, facts_in, environment_in}
-use Rattle.holdings.specs.Holdings.{HavePutNumbers, Holdings, image_of}
+use Rattle.codec.specs.Image.{image_facts, image_environment}
+use Rattle.holdings.specs.Holdings.{HavePutNumbers, Holdings, image_of, facts_held, environment_held}
 use Rattle.journal.specs.WholeRecords.{LeadsTo}
 use Rattle.graph.specs.Graph.{Graph}
 use Rattle.graph.specs.Fits.{AllFit}
@@ -34,8 +34,8 @@ pub record IsTakenTo (g : Graph) (old new : Holdings) (bytes : List ℕ) (end : 
   pub are_commits : AllByRecursion (IsCommit MAX_COMPONENTS) commits
   pub leads : LeadsTo bytes end (map commit_bytes commits)
   pub fit : AllFit g (image_facts (image_of old)) (events_of commits)
-  pub facts : (fact : Fact) → facts_in (image_of new) fact ≡ among (image_facts (image_of old) ++ facts (events_of commits)) fact
-  pub environment : (fact : Fact) → environment_in (image_of new) fact ≡ among (image_environment (image_of old) ++ environment (events_of commits)) fact
+  pub facts : (fact : Fact) → facts_held new fact ≡ among (image_facts (image_of old) ++ facts (events_of commits)) fact
+  pub environment : (fact : Fact) → environment_held new fact ≡ among (image_environment (image_of old) ++ environment (events_of commits)) fact
   pub counts : new.counts ≡ old.counts
 
 -- the bytes stand for commits that fit after the old image, up to this end, or they stand for no such commits

@@ -14,7 +14,7 @@ use Rattle.graph.specs.Canonical.{canonical}
 use Rattle.graph.specs.Reads.{Reads}
 use Rattle.graph.specs.Fits.{AllFit, FitsState, HasOneItemEach}
 use Rattle.graph.specs.FitLaws.{SameSet}
-use Rattle.holdings.specs.Holdings.{Holdings, image_of}
+use Rattle.holdings.specs.Holdings.{Holdings, facts_held}
 use Rattle.sides.specs.Side.{behind_gate, IsSide, start_of, end_of, facts_of}
 use Rattle.terms.specs.declared.key.TheConstants.{MAX_COMPONENTS}
 use Rattle.sides.specs.declared.gate.TheConstants.{FORMAT}
@@ -54,4 +54,4 @@ BeginsSide = (g : Graph) (generation : ℕ) (image : Image) → generation < 2 ^
 
 -- what is held has at most one item at an address
 abbrev pub HeldOnce : Type 0
-HeldOnce = (held : Holdings) → HasOneItemEach (facts_in (image_of held))
+HeldOnce = (held : Holdings) → HasOneItemEach (facts_held held)

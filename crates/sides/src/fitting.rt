@@ -1,9 +1,8 @@
 ghost use Rattle.std.specs.Prelude.{◌≡◌, ◌↔◌, IsTrue};
 ghost use Rattle.std.specs.List.{AllByRecursion};
 ghost use Rattle.terms.specs.Facts.{tag, done};
-ghost use Rattle.codec.specs.Image.{facts_in, environment_in};
 ghost use Rattle.graph.specs.Fits.{IsPrescribed, FitsState};
-ghost use Rattle.holdings.specs.Holdings.{image_of};
+ghost use Rattle.holdings.specs.Holdings.{image_of, facts_held, environment_held};
 ghost use Rattle.sides.specs.Looks.{ItemFits, TagFits, InstanceFits, FaultFits, InstancesFit, PutsFit};
 
 use graph::Graph;
@@ -12,7 +11,7 @@ use terms::{Addr, Inst, Producer, StepCollection, Tag, TagCollection, facts_are_
 
 /// Whether what is held fits a graph.
 pub(crate) fn fits(holdings: &Holdings, graph: &Graph) -> bool
-    ensures { IsTrue result ↔ FitsState graph.now (environment_in (image_of holdings.now)) (facts_in (image_of holdings.now)) }
+    ensures { IsTrue result ↔ FitsState graph.now (environment_held holdings.now) (facts_held holdings.now) }
 {
     facts_are_told_apart();
     images_of_maps();
@@ -35,7 +34,7 @@ fn puts_fit(holdings: &Holdings, graph: &Graph) -> bool
 
 // Whether the instance at fault, if there is one, is of the graph, prescribed, and not done.
 fn fault_fits(holdings: &Holdings, graph: &Graph) -> bool
-    ensures { IsTrue result ↔ FaultFits graph.now (facts_in (image_of holdings.now)) holdings.now.fault }
+    ensures { IsTrue result ↔ FaultFits graph.now (facts_held holdings.now) holdings.now.fault }
 {
     match holdings.fault() {
         Some((instance, _)) => {
@@ -48,7 +47,7 @@ fn fault_fits(holdings: &Holdings, graph: &Graph) -> bool
 
 // Whether each item fits.
 fn items_fit(holdings: &Holdings, graph: &Graph) -> bool
-    ensures { IsTrue result ↔ AllByRecursion (λ it. ItemFits graph.now (facts_in (image_of holdings.now)) it.0 it.2) (image_of holdings.now).items }
+    ensures { IsTrue result ↔ AllByRecursion (λ it. ItemFits graph.now (facts_held holdings.now) it.0 it.2) (image_of holdings.now).items }
 {
     let mut hints = Hints::new();
     for (address, (_, producer)) in holdings.items() {
@@ -74,7 +73,7 @@ fn tags_fit(holdings: &Holdings, graph: &Graph) -> bool
 
 // Whether each done instance fits.
 fn done_fit(holdings: &Holdings, graph: &Graph) -> bool
-    ensures { IsTrue result ↔ AllByRecursion (InstanceFits graph.now (facts_in (image_of holdings.now))) (image_of holdings.now).done }
+    ensures { IsTrue result ↔ AllByRecursion (InstanceFits graph.now (facts_held holdings.now)) (image_of holdings.now).done }
 {
     let mut hints = Hints::new();
     for ((number, key), ()) in holdings.done() {
@@ -94,7 +93,7 @@ fn item_fits(
     producer: &Producer,
     hints: &mut Hints,
 ) -> bool
-    ensures { IsTrue result ↔ ItemFits graph.now (facts_in (image_of holdings.now)) address.now producer.now }
+    ensures { IsTrue result ↔ ItemFits graph.now (facts_held holdings.now) address.now producer.now }
 {
     match producer {
         Producer::Env => graph.environment_puts_item(address),
@@ -117,7 +116,7 @@ fn tag_fits(graph: &Graph, name: &Tag, mark: bool) -> bool
 
 // Whether the instance is of the graph and prescribed.
 fn instance_fits(holdings: &Holdings, graph: &Graph, instance: &Inst, hints: &mut Hints) -> bool
-    ensures { IsTrue result ↔ InstanceFits graph.now (facts_in (image_of holdings.now)) instance.now }
+    ensures { IsTrue result ↔ InstanceFits graph.now (facts_held holdings.now) instance.now }
 {
     graph.is_instance(instance) && is_prescribed(holdings, graph, instance, hints)
 }
@@ -129,7 +128,7 @@ pub(crate) fn is_prescribed(
     instance: &Inst,
     hints: &mut Hints,
 ) -> bool
-    ensures { IsTrue result ↔ IsPrescribed graph.now (facts_in (image_of holdings.now)) instance.now }
+    ensures { IsTrue result ↔ IsPrescribed graph.now (facts_held holdings.now) instance.now }
 {
     match graph.prescriber(instance.collection) {
         Some(collection) => has_tag(
@@ -146,7 +145,7 @@ pub(crate) fn is_prescribed(
 
 // Whether the tag is held.
 fn has_tag(holdings: &Holdings, name: &Tag, hints: &mut Hints) -> bool
-    ensures { result ≡ facts_in (image_of holdings.now) (tag name.now) }
+    ensures { result ≡ facts_held holdings.now (tag name.now) }
 {
     images_of_maps();
     holdings.has_tag(name, hints)
@@ -154,7 +153,7 @@ fn has_tag(holdings: &Holdings, name: &Tag, hints: &mut Hints) -> bool
 
 // Whether the instance is done.
 pub(crate) fn is_done(holdings: &Holdings, instance: &Inst, hints: &mut Hints) -> bool
-    ensures { result ≡ facts_in (image_of holdings.now) (done instance.now) }
+    ensures { result ≡ facts_held holdings.now (done instance.now) }
 {
     images_of_maps();
     holdings.is_done(instance, hints)

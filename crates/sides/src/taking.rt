@@ -2,10 +2,10 @@ ghost use Rattle.std.specs.Prelude.{◌≡◌, ◌↔◌, ◌≤◌, ◌<◌, Is
 ghost use Rattle.std.specs.List.{AllByRecursion};
 ghost use Rattle.terms.specs.Facts.{tag, item, done, bad, put_fact, put_facts, facts, environment};
 ghost use Rattle.codec.specs.Spelling.{IsNumbered, HasFewPuts};
-ghost use Rattle.codec.specs.Image.{image_facts, facts_in, environment_item, environment_tag};
+ghost use Rattle.codec.specs.Image.{image_facts, environment_item, environment_tag};
 ghost use Rattle.terms.specs.declared.put.TheConstants.{MOST_PUTS};
 ghost use Rattle.graph.specs.Fits.{AllFit, Fits, FitsAs, MayEnd, AreNew, IsAbsent, PutIsOf};
-ghost use Rattle.holdings.specs.Holdings.{HavePutNumbers, IsFor, image_of};
+ghost use Rattle.holdings.specs.Holdings.{HavePutNumbers, IsFor, image_of, facts_held};
 ghost use Rattle.sides.specs.Growth.{EndFits, Grows, IsGrownBy, PutFits};
 
 use crate::fitting::{is_done, is_prescribed};
@@ -49,7 +49,7 @@ fn take(
 ) -> Result<bool, AllocError>
     requires few { HasFewPuts event.now }
     requires collections { IsFor graph.now holdings.old }
-    ensures fits { IfOk result (λ taken. IsTrue taken ↔ Fits graph.now (facts_in (image_of holdings.old)) event.now) }
+    ensures fits { IfOk result (λ taken. IsTrue taken ↔ Fits graph.now (facts_held holdings.old) event.now) }
     ensures grown { IfOk result (λ taken. IsTrue taken → IsGrownBy event.now holdings.old holdings.new) }
     ensures numbered { HavePutNumbers holdings.old → IfOk result (λ taken. IsTrue taken → HavePutNumbers holdings.new) }
 {
@@ -80,7 +80,7 @@ fn take_item(
     value: i64,
 ) -> Result<bool, AllocError>
     requires { IsFor graph.now holdings.old }
-    ensures fits { IfOk result (λ taken. IsTrue taken ↔ FitsAs graph.now (facts_in (image_of holdings.old)) (Event.EnvItem address.now value)) }
+    ensures fits { IfOk result (λ taken. IsTrue taken ↔ FitsAs graph.now (facts_held holdings.old) (Event.EnvItem address.now value)) }
     ensures grown { IfOk result (λ taken. IsTrue taken → IsGrownBy (Event.EnvItem address.now value) holdings.old holdings.new) }
     ensures numbered { HavePutNumbers holdings.old → IfOk result (λ taken. IsTrue taken → HavePutNumbers holdings.new) }
 {
@@ -93,7 +93,7 @@ fn take_item(
 /// Takes a tag of the environment.
 fn take_tag(holdings: &mut Holdings, graph: &Graph, name: &Tag) -> Result<bool, AllocError>
     requires { IsFor graph.now holdings.old }
-    ensures fits { IfOk result (λ taken. IsTrue taken ↔ FitsAs graph.now (facts_in (image_of holdings.old)) (Event.EnvTag name.now)) }
+    ensures fits { IfOk result (λ taken. IsTrue taken ↔ FitsAs graph.now (facts_held holdings.old) (Event.EnvTag name.now)) }
     ensures grown { IfOk result (λ taken. IsTrue taken → IsGrownBy (Event.EnvTag name.now) holdings.old holdings.new) }
     ensures items { IfOk result (λ _. holdings.new.items ≡ holdings.old.items) }
 {
@@ -113,7 +113,7 @@ fn take_end(
 ) -> Result<bool, AllocError>
     requires few { length puts.now ≤ MOST_PUTS }
     requires collections { IsFor graph.now holdings.old }
-    ensures fits { IfOk result (λ taken. IsTrue taken ↔ EndFits graph.now (facts_in (image_of holdings.old)) instance.now puts.now) }
+    ensures fits { IfOk result (λ taken. IsTrue taken ↔ EndFits graph.now (facts_held holdings.old) instance.now puts.now) }
     ensures grown { IfOk result (λ taken. IsTrue taken → Grows [] (done instance.now ∷ put_facts instance.now 0 puts.now) holdings.old holdings.new) }
     ensures numbered { HavePutNumbers holdings.old → IfOk result (λ taken. IsTrue taken → HavePutNumbers holdings.new) }
 {
@@ -138,7 +138,7 @@ fn take_fault(
     hints: &mut Hints,
 ) -> bool
     requires { holdings.old.fault ≡ None }
-    ensures fits { IsTrue result ↔ MayEnd graph.now (facts_in (image_of holdings.old)) instance.now }
+    ensures fits { IsTrue result ↔ MayEnd graph.now (facts_held holdings.old) instance.now }
     ensures grown { IsTrue result → Grows [] (bad instance.now kind ∷ []) holdings.old holdings.new }
     ensures items { holdings.new.items ≡ holdings.old.items }
 {
@@ -153,7 +153,7 @@ fn take_fault(
 
 /// Whether the instance can be ended: it is of the graph, prescribed by a tag that is held, and not done.
 fn may_end(holdings: &Holdings, graph: &Graph, instance: &Inst, hints: &mut Hints) -> bool
-    ensures { IsTrue result ↔ MayEnd graph.now (facts_in (image_of holdings.now)) instance.now }
+    ensures { IsTrue result ↔ MayEnd graph.now (facts_held holdings.now) instance.now }
 {
     graph.is_instance(instance)
         && is_prescribed(holdings, graph, instance, hints)
@@ -169,7 +169,7 @@ fn take_puts(
 ) -> Result<bool, AllocError>
     requires few { length puts.now ≤ MOST_PUTS }
     requires collections { IsFor graph.now holdings.old }
-    ensures fits { IfOk result (λ taken. IsTrue taken ↔ (AllByRecursion (PutIsOf graph.now) puts.now × AreNew (facts_in (image_of holdings.old)) puts.now)) }
+    ensures fits { IfOk result (λ taken. IsTrue taken ↔ (AllByRecursion (PutIsOf graph.now) puts.now × AreNew (facts_held holdings.old) puts.now)) }
     ensures grown { IfOk result (λ taken. IsTrue taken → Grows [] (put_facts instance.now 0 puts.now) holdings.old holdings.new) }
     ensures numbered { HavePutNumbers holdings.old → IfOk result (λ taken. IsTrue taken → HavePutNumbers holdings.new) }
 {
@@ -191,7 +191,7 @@ fn take_put(
     put: &Put,
 ) -> Result<bool, AllocError>
     requires { IsFor graph.now holdings.old }
-    ensures fits { IfOk result (λ taken. IsTrue taken ↔ PutFits graph.now (facts_in (image_of holdings.old)) put.now) }
+    ensures fits { IfOk result (λ taken. IsTrue taken ↔ PutFits graph.now (facts_held holdings.old) put.now) }
     ensures grown { IfOk result (λ taken. IsTrue taken → Grows [] (put_fact instance.now number put.now ∷ []) holdings.old holdings.new) }
     ensures numbered { HavePutNumbers holdings.old → number < MOST_PUTS → IfOk result (λ taken. IsTrue taken → HavePutNumbers holdings.new) }
 {
@@ -220,7 +220,7 @@ fn hold_item(
     by: Producer,
 ) -> Result<bool, AllocError>
     requires { address.now.collection.0 < holdings.old.counts.items }
-    ensures free { IfOk result (λ free. IsTrue free ↔ IsAbsent (facts_in (image_of holdings.old)) address.now) }
+    ensures free { IfOk result (λ free. IsTrue free ↔ IsAbsent (facts_held holdings.old) address.now) }
     ensures grown { IfOk result (λ free. IsTrue free → Grows (environment_item address.now value by) (item address.now value by ∷ []) holdings.old holdings.new) }
     ensures numbered { HavePutNumbers holdings.old → IsNumbered by → IfOk result (λ free. IsTrue free → HavePutNumbers holdings.new) }
 {
@@ -233,7 +233,7 @@ fn hold_item(
 /// Puts a tag in its place with a mark, and returns whether it was absent. A tag that is held already keeps its mark.
 fn hold_tag(holdings: &mut Holdings, name: &Tag, mark: bool) -> Result<bool, AllocError>
     requires { name.now.collection.0 < holdings.old.counts.tags }
-    ensures absent { IfOk result (λ absent. IsTrue absent ↔ (facts_in (image_of holdings.old) (tag name.now) ≡ false)) }
+    ensures absent { IfOk result (λ absent. IsTrue absent ↔ (facts_held holdings.old (tag name.now) ≡ false)) }
     ensures grown { IfOk result (λ absent. IsTrue absent → Grows (environment_tag (name.now, mark)) (tag name.now ∷ []) holdings.old holdings.new) }
     ensures kept { IfOk result (λ absent. absent ≡ false → Grows [] (tag name.now ∷ []) holdings.old holdings.new) }
     ensures items { IfOk result (λ _. holdings.new.items ≡ holdings.old.items) }

@@ -9,8 +9,7 @@ use Rattle.disk.specs.Storage.{Leaves}
 use Rattle.terms.specs.Sets.{Facts}
 use Rattle.graph.specs.Graph.{Graph}
 use Rattle.graph.specs.Canonical.{canonical}
-use Rattle.codec.specs.Image.{facts_in, environment_in}
-use Rattle.holdings.specs.Holdings.{HavePutNumbers, Holdings, IsFor, image_of}
+use Rattle.holdings.specs.Holdings.{HavePutNumbers, Holdings, IsFor, facts_held, environment_held}
 use Rattle.graph.specs.Fits.{FitsState, HasOneItemEach}
 use Rattle.sides.specs.declared.gate.Gate.TheVariants.{Short}
 use Rattle.sides.specs.Reading.{Tells}
@@ -86,17 +85,17 @@ IsOfAhead contents error = (side : Side) × (place : ℕ) × IsAhead contents si
 -- one item, and the puts have numbers that a put may have; there is each collection of the graph.
 pub record IsSound (g : Graph) (held : Holdings) (generation end : ℕ) (text : List ℕ) : Type 0 where
   pub bytes : List ℕ
-  pub is_side : IsSide bytes g generation (environment_in (image_of held)) (facts_in (image_of held))
+  pub is_side : IsSide bytes g generation (environment_held held) (facts_held held)
   pub ends : end ≡ end_of is_side
   pub text_is : text ≡ canonical g
   pub numbered : HavePutNumbers held
   pub collections : IsFor g held
-  pub fits : FitsState g (environment_in (image_of held)) (facts_in (image_of held))
-  pub one_item : HasOneItemEach (facts_in (image_of held))
+  pub fits : FitsState g (environment_held held) (facts_held held)
+  pub one_item : HasOneItemEach (facts_held held)
 
 -- the bytes of the side stand for what was found in them, and are kept with it
 pub record IsFoundIn (side : Side) (bytes : List ℕ) (found : Found) : Type 0 where
-  pub is_side : IsSide bytes found.graph found.generation (environment_in (image_of found.holdings)) (facts_in (image_of found.holdings))
+  pub is_side : IsSide bytes found.graph found.generation (environment_held found.holdings) (facts_held found.holdings)
   pub kept : found.bytes.items ≡ bytes
   pub side_is : found.journal.side ≡ side
   pub starts : found.start ≡ start_of is_side
@@ -109,7 +108,7 @@ IsNoSide bytes = (g : Graph) (generation : ℕ) (E X : Facts) → IsSide bytes g
 
 -- both files stand for what was found, and the live one gave it; its bytes are kept with it
 pub record IsFound (contents : Contents) (found : Found) : Type 0 where
-  pub is_live : IsLive contents found.journal.side found.generation found.graph (environment_in (image_of found.holdings)) (facts_in (image_of found.holdings))
+  pub is_live : IsLive contents found.journal.side found.generation found.graph (environment_held found.holdings) (facts_held found.holdings)
   pub kept : found.bytes.items ≡ contents found.journal.side
   pub ends : found.journal.end ≡ end_of is_live.is_side
   pub text : found.text.items ≡ canonical found.graph

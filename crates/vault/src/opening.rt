@@ -1,4 +1,4 @@
-ghost use Rattle.std.specs.Prelude.{◌≡◌, ◌≢◌, ◌⊎◌, ◌≤◌, ◌<◌, ◌↔◌, ℕ, false, IsTrue, IfOk, IfErr, IsErrOf, OnOk};
+ghost use Rattle.std.specs.Prelude.{◌≡◌, ◌≢◌, ◌<◌, false, IsTrue, IfOk, IfErr, IsErrOf, OnOk};
 ghost use Rattle.disk.specs.Storage.{Errs, Reports, ReportsAs};
 ghost use Rattle.disk.specs.declared.side.Side.{Side};
 ghost use Rattle.disk.specs.File.{at_rest};
@@ -7,8 +7,7 @@ ghost use Rattle.vault.specs.Store.{Holds, IsReady, disk_of_opening, answer_of};
 ghost use Rattle.vault.specs.Opened.{OnlyReads, IsFound, IsFoundIn, IsSound, TellsWhy, IsOfOpening, contents_of};
 ghost use Rattle.vault.specs.declared.error.VaultError.TheVariants.{Device, NoMemory};
 ghost use Rattle.disk.specs.declared.error.DiskError.TheVariants as DiskError;
-ghost use Rattle.codec.specs.Image.{facts_in, environment_in};
-ghost use Rattle.holdings.specs.Holdings.{image_of};
+ghost use Rattle.holdings.specs.Holdings.{facts_held, environment_held};
 
 use crate::found::{Found, found_in};
 use crate::heads::live_side;
@@ -37,7 +36,7 @@ pub struct Recovered<D: Disk> {
 /// the position of its length), and its journal (at the gate of the first record that is not whole and followed by a
 /// gate, is no event, or does not fit, or where the journal's first byte is missing).
 pub fn open<D: Disk>(alloc: Global, disk: D) -> Result<Recovered<D>, Refused<D>>
-    ensures found { IsTrue D.is_honest → IfOk result (λ r. Holds D.files r.vault r.graph (environment_in (image_of r.holdings)) (facts_in (image_of r.holdings))) }
+    ensures found { IsTrue D.is_honest → IfOk result (λ r. Holds D.files r.vault r.graph (environment_held r.holdings) (facts_held r.holdings)) }
     ensures ready { IsTrue D.is_honest → IfOk result (λ r. IsReady D.files r.vault) }
     ensures working { IfOk result (λ r. r.vault.halted ≡ false) }
 
