@@ -1,6 +1,6 @@
 -- Several outcomes that are committed together: what they say, how far they come, and what is promised of them.
 use Rattle.disk.specs.declared.storage.Disk.{Ghosts}
-use Rattle.std.specs.Prelude.{◌≡◌, ◌⊎◌, ◌+◌, ◌≤◌, ◌<◌, ◌++◌, ⊤, ℕ, true, false, List, [], ◌∷◌, length, drop, Option, Some, None, Result, Ok, Err, IsErrOf, IfOk, IfErr, OnErr, IsTrue}
+use Rattle.std.specs.Prelude.{◌≡◌, ◌⊎◌, ◌+◌, ◌≤◌, ◌<◌, ◌++◌, ⊤, ℕ, true, false, List, [], ◌∷◌, length, drop, Option, Some, None, Result, Ok, Err, IsErrOf, IfOk, IfErr, OnErr, IsTrue, take}
 use Rattle.terms.specs.declared.name.Inst.{Inst}
 use Rattle.terms.specs.declared.event.Event.{Event}
 use Rattle.terms.specs.declared.event.Event.TheVariants as event
@@ -39,6 +39,14 @@ pub record IsDivided (batch : Batch) (count : ℕ) (front behind : Batch) : Type
   pub outcomes : front.outcomes ++ behind.outcomes ≡ batch.outcomes
   pub many_tasks : length front.tasks ≡ count
   pub many_outcomes : length front.outcomes ≡ count
+
+-- a list was divided: this many are left in it, and the others taken out
+abbrev pub IsCut : {X : Type 0} → ℕ → List X → List X → List X → Type 0
+IsCut count all left others = (left ≡ take count all) × (others ≡ drop count all)
+
+-- a pair was added behind the others
+abbrev pub AddsPair : Batch → Batch → Inst → Outcome → Type 0
+AddsPair old new task outcome = (new.tasks ≡ old.tasks ++ task ∷ []) × (new.outcomes ≡ old.outcomes ++ outcome ∷ [])
 
 -- ---- what the outcomes say
 

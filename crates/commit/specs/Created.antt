@@ -53,3 +53,7 @@ pub record LeavesOthers {D T : Type 0} (storage : Ghosts D) (old new : D) (resul
   pub exists : IsErrOf result (Store Exists) → ((storage.files old A).content ≢ []) ⊎ ((storage.files old B).content ≢ [])
   pub kept : (some : Side) → (storage.files old some).content ≢ [] → (side : Side) → storage.files new side ≡ storage.files old side
   pub moments : (some : Side) → (storage.files old some).content ≢ [] → Leaves storage old new (MayLeaveNow (storage.files old))
+
+-- if memory was refused outside the disk, the disk is as it was
+abbrev pub GrowsFirst : {D : Type 0} → Ghosts D → D → NotCreated D → Type 0
+GrowsFirst storage old refused = refused.error ≡ Store NoMemory → storage.refusals refused.disk ≡ storage.refusals old → refused.disk ≡ old

@@ -3,7 +3,7 @@ use Rattle.std.specs.Prelude.{◌≡◌, ℤ, true, false, Option, Result, OnOk,
 use Rattle.terms.specs.declared.name.Addr.{Addr}
 use Rattle.machine.specs.declared.refusal.Refusal.{Refusal}
 use Rattle.machine.specs.Machine.{IsValueAt}
-use Rattle.vault.specs.declared.error.VaultError.TheVariants.{Halted}
+use Rattle.vault.specs.declared.error.VaultError.TheVariants.{Halted, NoMemory}
 use Rattle.commit.specs.declared.error.CoreError.{CoreError}
 use Rattle.commit.specs.declared.error.CoreError.TheVariants.{Refused, Store}
 use Rattle.commit.specs.Core.{Core, facts, is_halted}
@@ -16,6 +16,10 @@ RefusesOrHalted c why (Store error) = (is_halted c ≡ true) × (error ≡ Halte
 -- the core is halted, and returns `Halted`
 abbrev pub SaysHalted : {D : Type 0} → Core D → CoreError → Type 0
 SaysHalted c error = (is_halted c ≡ true) × (error ≡ Store Halted)
+
+-- memory was refused; or, if the core is halted, it says so
+abbrev pub SaysHaltedOrNoMemory : {D : Type 0} → Core D → CoreError → Type 0
+SaysHaltedOrNoMemory c error = (is_halted c ≡ false → error ≡ Store NoMemory) × (is_halted c ≡ true → SaysHalted c error)
 
 -- The value at an address, if an item is there and it may be asked for.
 pub record Gets {D : Type 0} (c : Core D) (may : Type 0) (why : Refusal → Type 0) (address : Addr) (result : Result (Option ℤ) CoreError) : Type 0 where

@@ -41,8 +41,8 @@ impl<'a> Model for Batch<'a> {
 }
 
 impl<'a> Batch<'a> {
-    ghost use Rattle.std.specs.Prelude.{◌≡◌, ◌≤◌, ◌<◌, ◌++◌, ◌∷◌, [], IfErr, IfOk, IfSome, None, OnOk, length};
-    ghost use Rattle.commit.specs.Batch.{Batch as Seen, HavePopped, ends_said};
+    ghost use Rattle.std.specs.Prelude.{◌≡◌, ◌≤◌, ◌<◌, ◌∷◌, [], IfErr, IfOk, None, OnOk, length};
+    ghost use Rattle.commit.specs.Batch.{AddsPair, Batch as Seen, HavePopped, ends_said};
     ghost use Rattle.commit.specs.declared.batch.TheConstants.{MOST_TOGETHER};
 
     /// A batch of one instance. If there is no memory, the pair comes back.
@@ -78,7 +78,7 @@ impl<'a> Batch<'a> {
     /// Adds an instance behind the others. If there is no memory, the pair comes back, and the batch stays as it was.
     pub fn add(&mut self, task: Task, outcome: Outcome<'a>) -> Result<(), (Task, Outcome<'a>)>
         requires { length self.old.tasks < MOST_TOGETHER }
-        ensures ok { OnOk result ((self.new.tasks ≡ self.old.tasks ++ task ∷ []) × (self.new.outcomes ≡ self.old.outcomes ++ outcome.entry ∷ [])) }
+        ensures ok { OnOk result (AddsPair self.old self.new task outcome.entry) }
         ensures back { IfErr result (λ back. (back.0 ≡ task) × (back.1 ≡ outcome.entry) × (self.new ≡ self.old)) }
     {
         if self.outcomes.reserve(1).is_err()

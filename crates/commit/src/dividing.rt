@@ -1,5 +1,6 @@
 //! A batch is divided into two.
-ghost use Rattle.std.specs.Prelude.{◌≡◌, ◌≤◌, IfOk, OnErr, drop, length, take};
+ghost use Rattle.std.specs.Prelude.{◌≡◌, ◌≤◌, IfOk, OnErr, length};
+ghost use Rattle.commit.specs.Batch.{IsCut};
 
 use crate::{Batch, Outcome};
 use instances::Tasks;
@@ -59,8 +60,8 @@ fn split_both<'a>(
 ) -> Result<(Tasks, Vec<Outcome<'a>>), AllocError>
     requires tasks { count ≤ length tasks.old }
     requires outcomes { count ≤ length outcomes.old.items }
-    ensures tasks { IfOk result (λ others. (tasks.new ≡ take count tasks.old) × (others.0 ≡ drop count tasks.old)) }
-    ensures outcomes { IfOk result (λ others. (outcomes.new.items ≡ take count outcomes.old.items) × (others.1.items ≡ drop count outcomes.old.items)) }
+    ensures tasks { IfOk result (λ others. IsCut count tasks.old tasks.new others.0) }
+    ensures outcomes { IfOk result (λ others. IsCut count outcomes.old.items outcomes.new.items others.1.items) }
     ensures err { OnErr result ((tasks.new ≡ tasks.old) × (outcomes.new.items ≡ outcomes.old.items)) }
 {
     let mut more = outcomes.split_off(count)?;

@@ -1,7 +1,7 @@
 //! Several ends of instances, committed as one.
 ghost use Rattle.std.specs.Prelude.{◌≡◌, ◌≤◌, cond, drop, length};
 ghost use Rattle.commit.specs.declared.events.Events.TheVariants.{Several};
-ghost use Rattle.machine.specs.Group.{StopsAt, cut, stopped_as as as_stopped};
+ghost use Rattle.machine.specs.Group.{StopsAt, cut, stopped_as as as_stopped, LeavesWhatEnds};
 
 use crate::events::Events;
 use crate::{Batch, Core, CoreError};
@@ -70,7 +70,7 @@ impl<D: Disk> Core<D> {
     fn make_ready_for_ends(&mut self, ends: &mut Vec<Event>) -> Result<Ended, CoreError>
         requires here { AreEndsHere self.old.machine ends.old.items }
         ensures working { OnOk result (is_halted self.old ≡ false) }
-        ensures together { IfOk result (λ ended. EndsTogether (graph self.old) (facts self.old) ends.old.items ended × (ends.new.items ≡ cut ended ends.old.items)) }
+        ensures together { IfOk result (LeavesWhatEnds (graph self.old) (facts self.old) ends.old.items ends.new.items) }
         ensures room { OnOk result (HasRoom self.new.machine (puts_of_all ends.new.items)) }
         ensures refused { IfErr result (RefusesAllFirst self.old) }
         ensures same { GivesRoom self.old self.new }

@@ -16,8 +16,7 @@ use vault::{Recovered, Refused, VaultError, stores_go_on};
 
 impl<D: Disk> Core<D> {
     ghost use Rattle.std.specs.Prelude.{◌≡◌, false, IfErr, IfOk, IsTrue};
-    ghost use Rattle.vault.specs.Opened.{IsSound};
-    ghost use Rattle.vault.specs.Store.{Holds};
+    ghost use Rattle.vault.specs.Opened.{IsHeld, IsSoundStore};
     ghost use Rattle.vault.specs.declared.error.VaultError.TheVariants.{NoMemory};
     ghost use Rattle.commit.specs.Opened.{IsOpened, IsCoreOf, OpensAs, disk_of};
 
@@ -37,9 +36,9 @@ impl<D: Disk> Core<D> {
 
     // The core of a store that was read.
     fn recovered(alloc: Global, recovered: Recovered<D>) -> Result<Core<D>, Refused<D>>
-        requires sound { IsSound recovered.graph recovered.holdings recovered.vault.generation recovered.vault.journal.end recovered.vault.text.items }
+        requires sound { IsSoundStore recovered }
         requires working { recovered.vault.halted ≡ false }
-        requires holds { IsTrue D.is_honest → Holds D.files recovered.vault recovered.graph (environment_held recovered.holdings) (facts_held recovered.holdings) }
+        requires holds { IsTrue D.is_honest → IsHeld D.files recovered }
         ensures opened { IfOk result IsOpened }
         ensures lists { IfOk result (IsCoreOf recovered) }
         ensures disk { disk_of result ≡ recovered.vault.disk }

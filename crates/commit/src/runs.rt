@@ -1,4 +1,4 @@
-ghost use Rattle.std.specs.Prelude.{◌≡◌, false, true, Ok, IsTrue};
+ghost use Rattle.std.specs.Prelude.{◌≡◌, false, true, Ok};
 ghost use Rattle.commit.specs.declared.verdict.Verdict.TheVariants.{Halted};
 ghost use Rattle.commit.specs.Core.{is_halted};
 ghost use Rattle.commit.specs.Runs.{NoneRuns, RunsWithin};
@@ -35,13 +35,13 @@ pub fn run_with<D: Disk, C: Choose>(
 }
 
 impl<D: Disk> Core<D> {
-    ghost use Rattle.std.specs.Prelude.{◌≡◌, ◌≢◌, ◌<◌, ◌+◌, false, true, ℕ, Some, Ok, IsTrue, IfErr, IfOk, OnOk};
+    ghost use Rattle.std.specs.Prelude.{◌≡◌, ◌≢◌, ◌<◌, false, true, Some, Ok, IfErr, IfOk, OnOk};
     ghost use Rattle.instances.specs.declared.state.State.TheVariants.{Running};
     ghost use Rattle.graph.specs.Fits.{HasNoFault};
     ghost use Rattle.terms.specs.declared.name.Inst.{Inst as Instance};
     ghost use Rattle.commit.specs.declared.verdict.Verdict.TheVariants.{Halted};
     ghost use Rattle.commit.specs.Core.{facts, graph as graph_of, is_halted, state_of};
-    ghost use Rattle.commit.specs.Runs.{EndsEarly, HasAsMany, IsFull, NoneRuns, RanOn, RunsOn, RunsWithin, TellsVerdict};
+    ghost use Rattle.commit.specs.Runs.{EndsEarly, HasAsMany, NoneRuns, RanOn, RunsOn, RunsWithin, TellsAlone};
     ghost use Rattle.commit.specs.Steps.{MayClaim};
 
     // Runs the steps, as `run_with` does.
@@ -182,7 +182,7 @@ impl<D: Disk> Core<D> {
         requires idle { NoneRuns self.now }
         requires ok { OnOk went (MayClaim self.now 0 → ⊥) }
         requires err { IfErr went (EndsEarly self.now) }
-        ensures { (limit count : ℕ) → self.now.allowance + count ≡ limit → TellsVerdict (IsFull self.now) false false self.now limit count result }
+        ensures { TellsAlone self.now result }
     {
         self.is_kept();
         match self.status() {

@@ -20,14 +20,14 @@ pub enum Status {
 }
 
 impl<D: Disk> Core<D> {
-    ghost use Rattle.std.specs.Prelude.{◌≡◌, ◌↔◌, ◌-◌, ◌^◌, false, true, Some, IfErr, IfOk, IsTrue, OnErr, OnOk, length, min};
+    ghost use Rattle.std.specs.Prelude.{◌≡◌, ◌↔◌, ◌-◌, ◌^◌, false, true, Some, IfErr, IfOk, IsTrue, OnOk, length, min};
     ghost use Rattle.instances.specs.declared.state.State.TheVariants.{Running};
     ghost use Rattle.machine.specs.Machine.{waiting_count};
     ghost use Rattle.machine.specs.Status.{AreBlocked, AreUnfinished, TellsFault};
     ghost use Rattle.vault.specs.declared.error.VaultError.TheVariants.{NoMemory};
     ghost use Rattle.commit.specs.declared.error.CoreError.TheVariants.{Store};
     ghost use Rattle.commit.specs.Core.{graph, is_halted, state_of};
-    ghost use Rattle.commit.specs.Gets.{SaysHalted};
+    ghost use Rattle.commit.specs.Gets.{SaysHalted, SaysHaltedOrNoMemory};
     ghost use Rattle.commit.specs.Runs.{NoneRuns};
     ghost use Rattle.commit.specs.Status.{TellsStatus, SaysOfMeaning};
     ghost use Rattle.commit.specs.Steps.{MayClaim, ready_count, running_count};
@@ -64,7 +64,7 @@ impl<D: Disk> Core<D> {
         ensures unfinished { IfOk result (λ list. AreUnfinished self.now.machine list.items) }
         ensures counted { IfOk result (λ list. length list.items ≡ waiting_count self.now.machine) }
         ensures working { OnOk result (is_halted self.now ≡ false) }
-        ensures refused { IfErr result (λ error. (is_halted self.now ≡ false → error ≡ Store NoMemory) × (is_halted self.now ≡ true → SaysHalted self.now error)) }
+        ensures refused { IfErr result (SaysHaltedOrNoMemory self.now) }
     {
         if self.vault.is_halted() {
             return Err(CoreError::Store(VaultError::Halted));

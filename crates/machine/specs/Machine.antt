@@ -135,6 +135,10 @@ pub record Moves (old new : Machine) (instance : Inst) (to : State) : Type 0 whe
   pub item_room : (collection : ItemCollection) → item_room new collection ≡ item_room old collection
   pub tag_room : (collection : TagCollection) → tag_room new collection ≡ tag_room old collection
 
+-- an instance that was ready runs; no fault stopped the store
+abbrev pub LetsRun : Machine → Machine → Inst → Type 0
+LetsRun old new instance = HasNoFault (facts old) × (state_of old instance ≡ Some Ready) × Moves old new instance Running
+
 -- if the item is there by now, the instance is ready; otherwise it waits
 abbrev pub LooksAgain : Machine → Machine → Inst → Addr → Type 0
 LooksAgain old new instance address = (IsAbsent (facts old) address × Moves old new instance (Waiting address)) ⊎ (HasItem (facts old) address × Moves old new instance Ready)

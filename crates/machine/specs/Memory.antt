@@ -11,11 +11,11 @@ use Rattle.terms.specs.Facts.{Fact, tag, item, done, bad, event_facts, environme
 use Rattle.terms.specs.Sets.{Facts, with_facts}
 use Rattle.graph.specs.Graph.{Graph, Step, IsGraph}
 use Rattle.graph.specs.Fits.{FitsState}
-use Rattle.items.specs.Held.{item_at, waiters_at}
+use Rattle.items.specs.Held.{item_at, waiters_at, with_waiter}
 use Rattle.items.specs.Once.{IsOnceEach, is_one_of}
 use Rattle.instances.specs.declared.state.State.{State}
 use Rattle.instances.specs.declared.state.State.TheVariants.{Ready, Running, Waiting, Done}
-use Rattle.instances.specs.Known.{mark_of, state_at, prescriber_at}
+use Rattle.instances.specs.Known.{mark_of, state_at, prescriber_at, MovesOne}
 use Rattle.holdings.specs.ImageLaws.{is_fault, is_item}
 use Rattle.machine.specs.declared.memory.Memory.{Memory}
 use Rattle.machine.specs.Legal.{Needs}
@@ -96,3 +96,7 @@ pub record Comes (old new : Memory) (event : Event) : Type 0 where
   pub tag_collections : length new.instances.tags.room ≡ length old.instances.tags.room
   pub prescribers : (number : ℕ) → prescriber_at new.instances number ≡ prescriber_at old.instances number
   pub listed : AreListed new
+
+-- an instance waits at an address, where it is listed
+abbrev pub LetsWait : Memory → Memory → Inst → Addr → Type 0
+LetsWait old new instance address = MovesOne old.instances new.instances instance (Waiting address) × (new.items ≡ with_waiter old.items address instance)

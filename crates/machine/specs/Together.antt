@@ -1,5 +1,5 @@
 -- A look at ends that come together, before they are put in order.
-use Rattle.std.specs.Prelude.{◌≡◌, ◌⊎◌, ⊤, ℕ, List, [], ◌∷◌, suc, take, Option, Some, None}
+use Rattle.std.specs.Prelude.{◌≡◌, ◌⊎◌, ⊤, ℕ, List, [], ◌∷◌, suc, take, Option, Some, None, Bool, MatchBool}
 use Rattle.terms.specs.declared.name.Addr.{Addr}
 use Rattle.terms.specs.declared.fault.FaultKind.{FaultKind}
 use Rattle.terms.specs.declared.put.Put.{Put}
@@ -43,3 +43,11 @@ IsOneNotNew held puts = IsOneThere held puts ⊎ ((address : Addr) × IsTwiceIn 
 pub record AreNewUpTo (held : Held) (events : List Event) (number : ℕ) : Type 0 where
   pub new : AreAllNew held (puts_of_all (take number events))
   pub next : IsOneNotNew held (puts_of_all (take (suc number) events))
+
+-- the answer says whether no address is twice in the list
+abbrev pub TellsDistinct : Bool → List Addr → Type 0
+TellsDistinct answer list = MatchBool answer ((address : Addr) → IsTwiceIn address list → ⊥) ((address : Addr) × IsTwiceIn address list)
+
+-- it says whether these puts are new together
+abbrev pub TellsNew : Held → List Put → Bool → Type 0
+TellsNew held puts answer = MatchBool answer (AreAllNew held puts) (IsOneNotNew held puts)

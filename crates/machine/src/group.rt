@@ -1,8 +1,8 @@
-ghost use Rattle.std.specs.Prelude.{◌≡◌, ◌≤◌, ◌<◌, IfOk, MatchBool, MatchOption, drop, length, take, vec_capacity};
+ghost use Rattle.std.specs.Prelude.{◌≡◌, ◌≤◌, ◌<◌, IfOk, MatchOption, drop, length, take, vec_capacity};
 ghost use Rattle.std.specs.List.{AllByRecursion};
 ghost use Rattle.machine.specs.Group.{IsDone, puts_of_all};
 ghost use Rattle.machine.specs.Machine.{puts_of as its_puts};
-ghost use Rattle.machine.specs.Together.{AreAllNew, AreNewUpTo, IsEnd, IsFault, IsFaultNext, IsOneNotNew};
+ghost use Rattle.machine.specs.Together.{AreNewUpTo, IsEnd, IsFault, IsFaultNext, IsOneNotNew, TellsNew};
 
 use crate::absence::are_all_absent;
 use crate::distinct::{all_differ, gather_all};
@@ -98,7 +98,7 @@ fn are_new_together(
     ends: &[Event],
 ) -> Result<bool, AllocError>
     requires { AllByRecursion IsDone ends.now }
-    ensures new { IfOk result (λ new. MatchBool new (AreAllNew items.now (puts_of_all ends.now)) (IsOneNotNew items.now (puts_of_all ends.now))) }
+    ensures new { IfOk result (TellsNew items.now (puts_of_all ends.now)) }
     ensures capacity { vec_capacity addresses.old ≤ vec_capacity addresses.new }
 {
     if !are_all_absent(items, ends) {

@@ -1,4 +1,5 @@
 ghost use Rattle.std.specs.Prelude.{◌≡◌};
+ghost use Rattle.machine.specs.Memory.{LetsWait};
 ghost use Rattle.machine.specs.Producers.{is_environment as by_environment};
 
 use crate::waking::wake_all;
@@ -21,9 +22,9 @@ impl Memory {
     ghost use Rattle.terms.specs.declared.put.Put.TheVariants.{Item, Tag as Name};
     ghost use Rattle.terms.specs.Facts.{item, tag as name, put_facts};
     ghost use Rattle.graph.specs.Fits.{IsAbsent, addresses};
-    ghost use Rattle.items.specs.Held.{IsOfCollection, room_for, waiters_at, with_waiter};
+    ghost use Rattle.items.specs.Held.{IsOfCollection, room_for, waiters_at};
     ghost use Rattle.items.specs.Once.{is_one_of};
-    ghost use Rattle.instances.specs.declared.state.State.TheVariants.{Ready, Running, Waiting};
+    ghost use Rattle.instances.specs.declared.state.State.TheVariants.{Ready, Running};
     ghost use Rattle.instances.specs.Known.{MovesOne, room_for as tags_for, state_at};
     ghost use Rattle.machine.specs.Memory.{AreListed, facts_of};
     ghost use Rattle.machine.specs.Waking.{Awakens};
@@ -107,7 +108,7 @@ impl Memory {
     pub(crate) fn park(&mut self, task: Task, addr: Addr) -> Result<(), AllocError>
         requires running { state_at self.old.instances task ≡ Some Running }
         requires unlisted { is_one_of task (waiters_at self.old.items addr) ≡ false }
-        ensures ok { OnOk result (MovesOne self.old.instances self.new.instances task (Waiting addr) × (self.new.items ≡ with_waiter self.old.items addr task)) }
+        ensures ok { OnOk result (LetsWait self.old self.new task addr) }
         ensures refused { OnErr result (MovesOne self.old.instances self.new.instances task Ready × (self.new.items ≡ self.old.items)) }
         ensures fault { self.new.fault ≡ self.old.fault }
     {

@@ -1,4 +1,6 @@
 //! Instances that are claimed by tickets.
+ghost use Rattle.machine.specs.Machine.{LetsRun};
+
 use crate::Machine;
 use instances::{Numbers, Task, Ticket};
 use std::alloc::AllocError;
@@ -6,10 +8,8 @@ use terms::{facts_are_told_apart, orders_are_total};
 
 impl Machine {
     ghost use Rattle.std.specs.Prelude.{◌≡◌, ◌<◌, IfOk, IfSome, None, OnErr, Some};
-    ghost use Rattle.instances.specs.declared.state.State.TheVariants.{Ready, Running};
     ghost use Rattle.instances.specs.Tickets.{HandsOutUntil};
-    ghost use Rattle.graph.specs.Fits.{HasNoFault};
-    ghost use Rattle.machine.specs.Machine.{Moves, facts, ready_count, state_of};
+    ghost use Rattle.machine.specs.Machine.{facts, ready_count};
 
     /// Hands out up to 64 ready instances as tickets, which it adds to these: such as no ticket stands for. If a fault stopped the store, none is handed out. Says whether the
     /// last number was drawn. An error adds no ticket.
@@ -32,7 +32,7 @@ impl Machine {
     pub fn claim_by(&mut self, ticket: &Ticket) -> Option<Task>
         ensures below { IfSome result (λ task. 0 < ready_count self.old) }
         ensures inst { IfSome result (λ task. task ≡ ticket.now.inst) }
-        ensures claimed { IfSome result (λ task. HasNoFault (facts self.old) × (state_of self.old task ≡ Some Ready) × Moves self.old self.new task Running) }
+        ensures claimed { IfSome result (LetsRun self.old self.new) }
         ensures none { result ≡ None → self.new ≡ self.old }
     {
         facts_are_told_apart();

@@ -1,10 +1,12 @@
+ghost use Rattle.machine.specs.Machine.{LetsRun};
+
 use crate::Machine;
 use instances::Task;
 use std::alloc::AllocError;
 use terms::{Addr, Put, facts_are_told_apart, orders_are_total};
 
 impl Machine {
-    ghost use Rattle.std.specs.Prelude.{◌≡◌, ◌==◌, ◌<◌, ◌≤◌, IfSome, IsSome, OnErr, OnOk, None, Some, cond, is_some};
+    ghost use Rattle.std.specs.Prelude.{◌≡◌, ◌<◌, IfSome, IsSome, OnErr, OnOk, None, Some, is_some};
     ghost use Rattle.instances.specs.declared.state.State.TheVariants.{Ready, Running};
     ghost use Rattle.graph.specs.Fits.{IsAbsent, HasNoFault};
     ghost use Rattle.machine.specs.Legal.{Needs};
@@ -15,7 +17,7 @@ impl Machine {
     pub fn claim(&mut self, at: usize) -> Option<Task>
         ensures some { at < ready_count self.old → HasNoFault (facts self.old) → IsSome result }
         ensures below { IfSome result (λ task. at < ready_count self.old) }
-        ensures claimed { IfSome result (λ task. HasNoFault (facts self.old) × (state_of self.old task ≡ Some Ready) × Moves self.old self.new task Running) }
+        ensures claimed { IfSome result (LetsRun self.old self.new) }
         ensures none { result ≡ None → self.new ≡ self.old }
     {
         facts_are_told_apart();

@@ -6,6 +6,7 @@ use Rattle.terms.specs.Sets.{Facts, among}
 use Rattle.codec.specs.Image.{image_facts, image_environment}
 use Rattle.graph.specs.Graph.{Graph}
 use Rattle.sides.specs.Side.{IsSide, start_of}
+use Rattle.journal.specs.Records.{StandsFor}
 
 module _ (count : ℕ) {bytes : List ℕ} {g : Graph} {generation : ℕ} {E X : Facts} (side : IsSide bytes g generation E X) where
   -- the first of its commits, this many, or all if it has no more
@@ -29,3 +30,7 @@ module _ (count : ℕ) {bytes : List ℕ} {g : Graph} {generation : ℕ} {E X : 
 abbrev pub LeavesFirst : (count start : ℕ) → (old new : List ℕ) → Type 0
 LeavesFirst count start old new =
     (g : Graph) (generation : ℕ) (E X : Facts) (side : IsSide old g generation E X) → start ≡ start_of side → HasFirst count side new
+
+-- where the old bytes stand for a list of payloads, the new ones stand for the first of them
+abbrev pub KeepsFirst : ℕ → List ℕ → List ℕ → Type 0
+KeepsFirst count old new = (payloads : List (List ℕ)) → StandsFor old payloads → StandsFor new (take count payloads)

@@ -1,16 +1,19 @@
 -- How what is held grows by what is put.
-use Rattle.std.specs.Prelude.{◌≡◌, ⊤, List, ◌++◌}
+use Rattle.std.specs.Prelude.{◌≡◌, ⊤, List, ◌++◌, ℤ, Bool, [], ◌∷◌}
 use Rattle.std.specs.List.{AllByRecursion}
 use Rattle.terms.specs.declared.name.Inst.{Inst}
 use Rattle.terms.specs.declared.event.Event.{Event}
 use Rattle.terms.specs.declared.put.Put.{Put}
 use Rattle.terms.specs.declared.put.Put.TheVariants as put
-use Rattle.terms.specs.Facts.{Fact, event_facts, environment_facts}
+use Rattle.terms.specs.Facts.{Fact, event_facts, environment_facts, done, item, tag, put_facts}
 use Rattle.terms.specs.Sets.{Facts, among}
 use Rattle.holdings.specs.Holdings.{Holdings, image_of}
-use Rattle.codec.specs.Image.{image_facts, image_environment}
+use Rattle.codec.specs.Image.{image_facts, image_environment, environment_item, environment_tag}
 use Rattle.graph.specs.Graph.{Graph}
 use Rattle.graph.specs.Fits.{AreNew, IsAbsent, MayEnd, PutIsOf}
+use Rattle.terms.specs.declared.name.Addr.{Addr}
+use Rattle.terms.specs.declared.name.Tag.{Tag}
+use Rattle.terms.specs.declared.producer.Producer.{Producer}
 
 -- as sets, the new list is the old one and these facts
 pub record AlsoHas (stated old new : List Fact) : Type 0 where
@@ -35,6 +38,22 @@ IsFree X (put.Tag name) = ⊤
 abbrev pub PutFits : Graph → Facts → Put → Type 0
 PutFits g X one = PutIsOf g one × IsFree X one
 
--- an instance may end with these puts: they are of the graph, and new
+-- these puts fit: they are of the graph, and new
+abbrev pub PutsFit : Graph → Facts → List Put → Type 0
+PutsFit g X puts = AllByRecursion (PutIsOf g) puts × AreNew X puts
+
+-- an instance may end with these puts
 abbrev pub EndFits : Graph → Facts → Inst → List Put → Type 0
-EndFits g X instance puts = MayEnd g X instance × AllByRecursion (PutIsOf g) puts × AreNew X puts
+EndFits g X instance puts = MayEnd g X instance × PutsFit g X puts
+
+-- an instance ended with these puts
+abbrev pub GrowsByEnd : Inst → List Put → Holdings → Holdings → Type 0
+GrowsByEnd instance puts = Grows [] (done instance ∷ put_facts instance 0 puts)
+
+-- an item was put
+abbrev pub GrowsByItem : Addr → ℤ → Producer → Holdings → Holdings → Type 0
+GrowsByItem address value by = Grows (environment_item address value by) (item address value by ∷ [])
+
+-- a tag was put, with a mark if the environment put it
+abbrev pub GrowsByTag : Tag → Bool → Holdings → Holdings → Type 0
+GrowsByTag name mark = Grows (environment_tag (name, mark)) (tag name ∷ [])

@@ -37,6 +37,10 @@ FaultFits g X (Some fault) = InstanceFits g X fault.0 × (X (done fault.0) ≡ f
 abbrev pub InstancesFit : Graph → Image → Type 0
 InstancesFit g image = FaultFits g (facts_in image) image.fault × AllByRecursion (InstanceFits g (facts_in image)) image.done
 
+-- the items fit
+abbrev pub ItemsFit : Graph → Image → Type 0
+ItemsFit g image = AllByRecursion (λ it. ItemFits g (facts_in image) it.0 it.2) image.items
+
 -- the items and the tags fit
 abbrev pub PutsFit : Graph → Image → Type 0
-PutsFit g image = AllByRecursion (λ it. ItemFits g (facts_in image) it.0 it.2) image.items × AllByRecursion (λ marked. TagFits g marked.0 marked.1) image.tags
+PutsFit g image = ItemsFit g image × AllByRecursion (λ marked. TagFits g marked.0 marked.1) image.tags

@@ -1,5 +1,5 @@
 -- What reading the bytes of a side finds there, part by part.
-use Rattle.std.specs.Prelude.{◌≡◌, ◌≤◌, ◌<◌, ◌+◌, ◌^◌, ℕ, List, ◌++◌, length, drop, map}
+use Rattle.std.specs.Prelude.{◌≡◌, ◌≤◌, ◌<◌, ◌+◌, ◌^◌, ℕ, List, ◌++◌, length, drop, map, MatchOption, Option}
 use Rattle.std.specs.List.{AllByRecursion}
 use Rattle.terms.specs.Commits.{Commit, events_of}
 use Rattle.terms.specs.Facts.{Fact, facts, environment}
@@ -19,6 +19,7 @@ use Rattle.sides.specs.declared.gate.Gate.TheVariants.{Closed, Short, Open}
 use Rattle.sides.specs.declared.reading.Standing.{Standing}
 use Rattle.sides.specs.Side.{counted, IsOpen, HasGeneration, IsSide, start_of, end_of}
 use Rattle.terms.specs.declared.key.TheConstants.{MAX_COMPONENTS}
+use Rattle.std.specs.Global.{Vec}
 
 -- what the first ten bytes of a file say of its side, or all its bytes where it has fewer
 abbrev pub Tells : Gate → List ℕ → Type 0
@@ -47,6 +48,14 @@ IsCanonical text = (g : Graph) × IsTextOf text g
 -- the bytes spell the image, and it fits the graph
 abbrev pub IsImageOf : Graph → List ℕ → Image → Type 0
 IsImageOf g bytes image = SpellsImage MAX_COMPONENTS bytes image × FitsState g (environment_in image) (facts_in image)
+
+-- what is found: the graph that has this canonical text, and the text; or nothing, if no graph has it
+abbrev pub FindsGraph : List ℕ → Option (Graph × Vec ℕ) → Type 0
+FindsGraph text found = MatchOption found ((g : Graph) → IsTextOf text g → ⊥) (λ both. IsTextOf text both.0 × (both.1.items ≡ canonical both.0))
+
+-- what is found: what the image that these bytes spell lists, if it fits the graph; or nothing, if they spell no such image
+abbrev pub FindsImageOf : Graph → List ℕ → Option Holdings → Type 0
+FindsImageOf g bytes found = MatchOption found ((image : Image) → IsImageOf g bytes image → ⊥) (λ holdings. IsImageOf g bytes (image_of holdings))
 
 -- the bytes stand for these commits, one a record, and each event fits after the facts of the image and the events before it
 pub record AreCommits (g : Graph) (image : Image) (bytes : List ℕ) (commits : List Commit) : Type 0 where

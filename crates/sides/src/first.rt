@@ -1,7 +1,7 @@
 //! The first of a side's commits.
 ghost use Rattle.std.specs.Prelude.{◌≡◌, ◌<◌, ◌≤◌, ℕ, List, length, take, drop};
 ghost use Rattle.journal.specs.Records.{records, StandsFor};
-ghost use Rattle.sides.specs.First.{LeavesFirst};
+ghost use Rattle.sides.specs.First.{LeavesFirst, KeepsFirst};
 
 use crate::law::sides_go_on;
 use graph::fitting;
@@ -24,7 +24,7 @@ pub fn close_behind(bytes: &mut [u8], start: u64, count: u64)
 fn close_gate(bytes: &mut [u8], start: usize, count: u64)
     requires { start < length bytes.old }
     ensures front { take start bytes.new ≡ take start bytes.old }
-    ensures stands { (payloads : List (List ℕ)) → StandsFor (drop start bytes.old) payloads → StandsFor (drop start bytes.new) (take count payloads) }
+    ensures stands { KeepsFirst count (drop start bytes.old) (drop start bytes.new) }
 {
     let end = start + first_end(&bytes[start..], count);
     if end < bytes.len() {

@@ -3,7 +3,7 @@ ghost use Rattle.std.specs.List.{AllByRecursion};
 ghost use Rattle.terms.specs.Facts.{tag, done};
 ghost use Rattle.graph.specs.Fits.{IsPrescribed, FitsState};
 ghost use Rattle.holdings.specs.Holdings.{image_of, facts_held, environment_held};
-ghost use Rattle.sides.specs.Looks.{ItemFits, TagFits, InstanceFits, FaultFits, InstancesFit, PutsFit};
+ghost use Rattle.sides.specs.Looks.{ItemFits, TagFits, InstanceFits, FaultFits, InstancesFit, PutsFit, ItemsFit};
 
 use graph::Graph;
 use holdings::{Hints, Holdings, images_of_maps};
@@ -47,7 +47,7 @@ fn fault_fits(holdings: &Holdings, graph: &Graph) -> bool
 
 // Whether each item fits.
 fn items_fit(holdings: &Holdings, graph: &Graph) -> bool
-    ensures { IsTrue result ↔ AllByRecursion (λ it. ItemFits graph.now (facts_held holdings.now) it.0 it.2) (image_of holdings.now).items }
+    ensures { IsTrue result ↔ ItemsFit graph.now (image_of holdings.now) }
 {
     let mut hints = Hints::new();
     for (address, (_, producer)) in holdings.items() {

@@ -1,10 +1,8 @@
 //! The parts of a side before its journal. A missing part is no error here: the functions return `None`.
-ghost use Rattle.std.specs.Prelude.{◌≡◌, ◌≤◌, length, IfOk, IfSome, MatchOption};
-ghost use Rattle.codec.specs.declared.image.Image.{Image as Listed};
+ghost use Rattle.std.specs.Prelude.{◌≤◌, length, IfOk, IfSome, MatchOption};
 ghost use Rattle.graph.specs.Canonical.{canonical};
-ghost use Rattle.graph.specs.Graph.{Graph as Meant};
-ghost use Rattle.holdings.specs.Holdings.{HavePutNumbers, IsFor, image_of};
-ghost use Rattle.sides.specs.Reading.{IsCountedAt, HasNoneAt, IsTextOf, IsImageOf};
+ghost use Rattle.holdings.specs.Holdings.{HavePutNumbers, IsFor};
+ghost use Rattle.sides.specs.Reading.{IsCountedAt, HasNoneAt, FindsGraph, FindsImageOf};
 
 use crate::fitting::fits;
 use byteorder::{ByteOrder, LittleEndian};
@@ -35,7 +33,7 @@ pub(crate) fn counted_at(bytes: &[u8], at: usize) -> Option<&[u8]>
 
 /// The graph that has this canonical text, and the text spelled anew.
 pub(crate) fn read_graph(alloc: Global, text: &[u8]) -> Result<Option<(Graph, Vec<u8>)>, AllocError>
-    ensures { IfOk result (λ found. MatchOption found ((g : Meant) → IsTextOf text.now g → ⊥) (λ both. IsTextOf text.now both.0 × (both.1.items ≡ canonical both.0))) }
+    ensures { IfOk result (FindsGraph text.now) }
 {
     reads_without_fault();
     one_reading();
@@ -60,7 +58,7 @@ pub(crate) fn read_image(
     graph: &Graph,
     bytes: &[u8],
 ) -> Result<Option<Holdings>, AllocError>
-    ensures image { IfOk result (λ found. MatchOption found ((image : Listed) → IsImageOf graph.now bytes.now image → ⊥) (λ holdings. IsImageOf graph.now bytes.now (image_of holdings))) }
+    ensures image { IfOk result (FindsImageOf graph.now bytes.now) }
     ensures numbered { IfOk result (λ found. IfSome found (λ holdings. HavePutNumbers holdings)) }
     ensures collections { IfOk result (λ found. IfSome found (IsFor graph.now)) }
 {

@@ -1,7 +1,5 @@
-ghost use Rattle.std.specs.Prelude.{◌≡◌, ◌≤◌, ℕ, length, IfOk, IsErrOf};
-ghost use Rattle.graph.specs.Graph.{Graph as Meant};
-ghost use Rattle.terms.specs.Sets.{Facts};
-ghost use Rattle.sides.specs.Side.{IsOpen, HasGeneration, IsSide};
+ghost use Rattle.std.specs.Prelude.{◌≤◌, ℕ, length, IfOk, IsErrOf};
+ghost use Rattle.sides.specs.Side.{IsOpen, HasGeneration, IsNoSide};
 ghost use Rattle.sides.specs.Reading.{IsRead};
 ghost use Rattle.sides.specs.declared.error.SideError.TheVariants.{Damaged};
 
@@ -36,7 +34,7 @@ pub struct Standing {
 pub fn read_side(alloc: Global, bytes: &[u8]) -> Result<Standing, SideError>
     requires { IsOpen bytes.now × (10 ≤ length bytes.now) }
     ensures read { IfOk result (λ standing. (generation : ℕ) → HasGeneration bytes.now generation → IsRead bytes.now generation standing) }
-    ensures nothing { (place : ℕ) → IsErrOf result (Damaged place) → (g : Meant) (generation : ℕ) (E X : Facts) → IsSide bytes.now g generation E X → ⊥ }
+    ensures nothing { (place : ℕ) → IsErrOf result (Damaged place) → IsNoSide bytes.now }
 {
     one_reading();
     fitting();

@@ -1,8 +1,8 @@
-ghost use Rattle.std.specs.Prelude.{◌≡◌, ◌≤◌, ◌<◌, ◌+◌, ◌^◌, ◌++◌, ◌↔◌, [], ◌∷◌, length, take, drop, IsTrue, IfOk, OnOk};
+ghost use Rattle.std.specs.Prelude.{◌≡◌, ◌≤◌, ◌<◌, ◌+◌, ◌^◌, ◌++◌, ◌↔◌, ◌∷◌, length, take, drop, IsTrue, IfOk, OnOk};
 ghost use Rattle.byteorder.specs.Endian.{little_bytes};
 ghost use Rattle.codec.specs.Image.{IsInOrder};
 ghost use Rattle.codec.specs.Spelling.{IsImage, image_bytes};
-ghost use Rattle.sides.specs.Side.{behind_gate, counted};
+ghost use Rattle.sides.specs.Side.{counted, AppendsSide};
 ghost use Rattle.terms.specs.declared.key.TheConstants.{MAX_COMPONENTS};
 ghost use Rattle.sides.specs.declared.gate.TheConstants.{FORMAT};
 
@@ -27,7 +27,7 @@ pub fn spell_side(
 ) -> Result<bool, AllocError>
     requires text { length text.now < 2 ^ 32 }
     requires image { IsInOrder image.now }
-    ensures spelled { OnOk result (length (image_bytes image.now) < 2 ^ 32 → out.new.items ≡ out.old.items ++ behind_gate FORMAT generation text.now (image_bytes image.now) (0 ∷ [])) }
+    ensures spelled { OnOk result (AppendsSide generation text.now image.now out.old.items out.new.items) }
     ensures counted { IfOk result (λ counted. IsTrue counted ↔ (length (image_bytes image.now) < 2 ^ 32)) }
     ensures in_range { OnOk result (IsImage MAX_COMPONENTS image.now) }
 {

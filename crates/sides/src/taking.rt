@@ -2,11 +2,11 @@ ghost use Rattle.std.specs.Prelude.{◌≡◌, ◌↔◌, ◌≤◌, ◌<◌, Is
 ghost use Rattle.std.specs.List.{AllByRecursion};
 ghost use Rattle.terms.specs.Facts.{tag, item, done, bad, put_fact, put_facts, facts, environment};
 ghost use Rattle.codec.specs.Spelling.{IsNumbered, HasFewPuts};
-ghost use Rattle.codec.specs.Image.{image_facts, environment_item, environment_tag};
+ghost use Rattle.codec.specs.Image.{image_facts};
 ghost use Rattle.terms.specs.declared.put.TheConstants.{MOST_PUTS};
-ghost use Rattle.graph.specs.Fits.{AllFit, Fits, FitsAs, MayEnd, AreNew, IsAbsent, PutIsOf};
+ghost use Rattle.graph.specs.Fits.{AllFit, Fits, FitsAs, MayEnd, IsAbsent};
 ghost use Rattle.holdings.specs.Holdings.{HavePutNumbers, IsFor, image_of, facts_held};
-ghost use Rattle.sides.specs.Growth.{EndFits, Grows, IsGrownBy, PutFits};
+ghost use Rattle.sides.specs.Growth.{EndFits, Grows, IsGrownBy, PutFits, GrowsByEnd, GrowsByItem, GrowsByTag, PutsFit};
 
 use crate::fitting::{is_done, is_prescribed};
 use graph::{Graph, fitting};
@@ -114,7 +114,7 @@ fn take_end(
     requires few { length puts.now ≤ MOST_PUTS }
     requires collections { IsFor graph.now holdings.old }
     ensures fits { IfOk result (λ taken. IsTrue taken ↔ EndFits graph.now (facts_held holdings.old) instance.now puts.now) }
-    ensures grown { IfOk result (λ taken. IsTrue taken → Grows [] (done instance.now ∷ put_facts instance.now 0 puts.now) holdings.old holdings.new) }
+    ensures grown { IfOk result (λ taken. IsTrue taken → GrowsByEnd instance.now puts.now holdings.old holdings.new) }
     ensures numbered { HavePutNumbers holdings.old → IfOk result (λ taken. IsTrue taken → HavePutNumbers holdings.new) }
 {
     facts_are_told_apart();
@@ -169,7 +169,7 @@ fn take_puts(
 ) -> Result<bool, AllocError>
     requires few { length puts.now ≤ MOST_PUTS }
     requires collections { IsFor graph.now holdings.old }
-    ensures fits { IfOk result (λ taken. IsTrue taken ↔ (AllByRecursion (PutIsOf graph.now) puts.now × AreNew (facts_held holdings.old) puts.now)) }
+    ensures fits { IfOk result (λ taken. IsTrue taken ↔ PutsFit graph.now (facts_held holdings.old) puts.now) }
     ensures grown { IfOk result (λ taken. IsTrue taken → Grows [] (put_facts instance.now 0 puts.now) holdings.old holdings.new) }
     ensures numbered { HavePutNumbers holdings.old → IfOk result (λ taken. IsTrue taken → HavePutNumbers holdings.new) }
 {
@@ -221,7 +221,7 @@ fn hold_item(
 ) -> Result<bool, AllocError>
     requires { address.now.collection.0 < holdings.old.counts.items }
     ensures free { IfOk result (λ free. IsTrue free ↔ IsAbsent (facts_held holdings.old) address.now) }
-    ensures grown { IfOk result (λ free. IsTrue free → Grows (environment_item address.now value by) (item address.now value by ∷ []) holdings.old holdings.new) }
+    ensures grown { IfOk result (λ free. IsTrue free → GrowsByItem address.now value by holdings.old holdings.new) }
     ensures numbered { HavePutNumbers holdings.old → IsNumbered by → IfOk result (λ free. IsTrue free → HavePutNumbers holdings.new) }
 {
     facts_are_told_apart();
@@ -234,7 +234,7 @@ fn hold_item(
 fn hold_tag(holdings: &mut Holdings, name: &Tag, mark: bool) -> Result<bool, AllocError>
     requires { name.now.collection.0 < holdings.old.counts.tags }
     ensures absent { IfOk result (λ absent. IsTrue absent ↔ (facts_held holdings.old (tag name.now) ≡ false)) }
-    ensures grown { IfOk result (λ absent. IsTrue absent → Grows (environment_tag (name.now, mark)) (tag name.now ∷ []) holdings.old holdings.new) }
+    ensures grown { IfOk result (λ absent. IsTrue absent → GrowsByTag name.now mark holdings.old holdings.new) }
     ensures kept { IfOk result (λ absent. absent ≡ false → Grows [] (tag name.now ∷ []) holdings.old holdings.new) }
     ensures items { IfOk result (λ _. holdings.new.items ≡ holdings.old.items) }
 {

@@ -7,10 +7,10 @@ use Rattle.terms.specs.Sets.{Facts}
 use Rattle.codec.specs.Image.{facts_in, environment_in}
 use Rattle.graph.specs.Graph.{Graph}
 use Rattle.holdings.specs.Holdings.{image_of}
-use Rattle.sides.specs.Side.{IsSide, IsOpen, HasGeneration, StandsWithGeneration, OneGeneration, end_of}
+use Rattle.sides.specs.Side.{IsSide, IsOpen, HasGeneration, StandsWithGeneration, OneGeneration, end_of, IsNoSide}
 use Rattle.vault.specs.declared.found.Found.{Found}
 use Rattle.vault.specs.Stands.{IsLive, IsBehind, other_side}
-use Rattle.vault.specs.Opened.{IsAhead, StandsForNothing, IsFoundIn, IsFound, IsNoSide}
+use Rattle.vault.specs.Opened.{IsAhead, StandsForNothing, IsFoundIn, IsFound}
 use Rattle.vault.proofs.OpenedHeads.{opens}
 
 -- a side that is open and behind a generation has a smaller one

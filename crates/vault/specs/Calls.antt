@@ -136,6 +136,10 @@ pub record TurnsFor {D T : Type 0} (storage : Ghosts D) (old new : Vault D) (g :
   pub any_moment : SpellsFacts image E X → (storage.files old.disk (other_side old.journal.side)).content ≢ [] → Leaves storage old.disk new.disk (λ contents. Stands contents g E X)
   pub gates : HasGates (contents_of (storage.files old.disk)) → Leaves storage old.disk new.disk HasGates
 
+-- the same, whatever the store holds
+abbrev pub TurnsStore : {D T : Type 0} → Ghosts D → Vault D → Vault D → List ℕ → Result T VaultError → Type 0
+TurnsStore storage old new image result = (g : Graph) (E X : Facts) → Holds storage.files old g E X → TurnsFor storage old new g E X image result
+
 -- How a turnover with the bytes of an image leaves the vault, on every disk: after `Ok` the other side is live, one generation greater, and its journal ends at the
 -- last byte of the new side; after an error the side and the generation are those before. The text stays.
 pub record TurnsOver {D : Type 0} (old new : Vault D) (image : List ℕ) (result : Result ℕ VaultError) : Type 0 where

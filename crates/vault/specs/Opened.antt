@@ -18,7 +18,8 @@ use Rattle.vault.specs.declared.found.Found.{Found}
 use Rattle.vault.specs.declared.error.VaultError.{VaultError}
 use Rattle.vault.specs.declared.error.VaultError.TheVariants.{NotAStore, Damaged, Full, Halted, Exists}
 use Rattle.vault.specs.Stands.{Stands, IsLive, IsBehind, other_side}
-use Rattle.vault.specs.Store.{SaysNothing}
+use Rattle.vault.specs.Store.{SaysNothing, Holds}
+use Rattle.vault.specs.declared.opening.Recovered.{Recovered}
 
 -- what reads return of both files
 abbrev pub contents_of : (Side → File) → Contents
@@ -61,6 +62,10 @@ AreOfOneGeneration contents = (generation : ℕ) × HasGeneration (contents A) g
 abbrev pub StandsForNothing : Contents → Type 0
 StandsForNothing contents = (g : Graph) (E X : Facts) → Stands contents g E X → ⊥
 
+-- if the error says that there is nothing, the files stand for nothing
+abbrev pub MeansNothing : Contents → VaultError → Type 0
+MeansNothing contents error = SaysNothing error → StandsForNothing contents
+
 -- no side is open
 abbrev pub NoneIsOpen : Contents → Type 0
 NoneIsOpen contents = (side : Side) → IsOpen (contents side) → ⊥
@@ -73,6 +78,14 @@ HeadsFault contents error =
     ⊎ ((IsCutShort (contents A) → ⊥) × SaysCutShort B (contents B) error)
     ⊎ (AreOfOneGeneration contents × (error ≡ Damaged A 2))
     ⊎ (NoneIsOpen contents × (error ≡ NotAStore))
+
+-- a fault of the heads is returned, unless a call of the disk returned an error
+abbrev pub ReturnsFault : {T : Type 0} → Contents → Type 0 → Result T VaultError → Type 0
+ReturnsFault contents erred result = (error : VaultError) → HeadsFault contents error → IsErrOf result error ⊎ erred
+
+-- what is so of all files whose sides have these generations, or are closed
+abbrev pub OfGenerations : Option ℕ → Option ℕ → (Contents → Type 0) → Type 0
+OfGenerations a b P = (contents : Contents) → IsGenerationOf a (contents A) → IsGenerationOf b (contents B) → P contents
 
 -- the error is damage of the side that is ahead, at a place
 abbrev pub IsOfAhead : Contents → VaultError → Type 0
@@ -93,6 +106,16 @@ pub record IsSound (g : Graph) (held : Holdings) (generation end : ℕ) (text : 
   pub fits : FitsState g (environment_held held) (facts_held held)
   pub one_item : HasOneItemEach (facts_held held)
 
+abbrev pub IsSoundFound : Found → Type 0
+IsSoundFound found = IsSound found.graph found.holdings found.generation found.journal.end found.text.items
+
+abbrev pub IsSoundStore : {D : Type 0} → Recovered D → Type 0
+IsSoundStore r = IsSound r.graph r.holdings r.vault.generation r.vault.journal.end r.vault.text.items
+
+-- the vault of what was opened holds its graph and its facts
+abbrev pub IsHeld : {D : Type 0} → (D → Side → File) → Recovered D → Type 0
+IsHeld files r = Holds files r.vault r.graph (environment_held r.holdings) (facts_held r.holdings)
+
 -- the bytes of the side stand for what was found in them, and are kept with it
 pub record IsFoundIn (side : Side) (bytes : List ℕ) (found : Found) : Type 0 where
   pub is_side : IsSide bytes found.graph found.generation (environment_held found.holdings) (facts_held found.holdings)
@@ -101,10 +124,6 @@ pub record IsFoundIn (side : Side) (bytes : List ℕ) (found : Found) : Type 0 w
   pub starts : found.start ≡ start_of is_side
   pub ends : found.journal.end ≡ end_of is_side
   pub text : found.text.items ≡ canonical found.graph
-
--- the bytes of a side stand for nothing
-abbrev pub IsNoSide : List ℕ → Type 0
-IsNoSide bytes = (g : Graph) (generation : ℕ) (E X : Facts) → IsSide bytes g generation E X → ⊥
 
 -- both files stand for what was found, and the live one gave it; its bytes are kept with it
 pub record IsFound (contents : Contents) (found : Found) : Type 0 where
@@ -118,8 +137,8 @@ pub record IsFound (contents : Contents) (found : Found) : Type 0 where
 -- What a refusal says of the files. `erred` says that a call of the disk returned an error; if none did, a fault of the heads is returned.
 -- `NotAStore` and `Damaged` say that the files stand for nothing; they are a fault of the heads, or damage of the side that is ahead.
 pub record TellsWhy {T : Type 0} (contents : Contents) (erred : Type 0) (result : Result T VaultError) : Type 0 where
-  pub nothing : IfErr result (λ error. SaysNothing error → StandsForNothing contents)
-  pub heads : (error : VaultError) → HeadsFault contents error → IsErrOf result error ⊎ erred
+  pub nothing : IfErr result (MeansNothing contents)
+  pub heads : ReturnsFault contents erred result
   pub cause : IfErr result (λ error. SaysNothing error → HeadsFault contents error ⊎ IsOfAhead contents error)
 
 -- an error that opening may return

@@ -1,5 +1,5 @@
 -- What a vault keeps between two calls, and what its calls leave.
-use Rattle.std.specs.Prelude.{◌≡◌, ◌≢◌, ◌⊎◌, ◌+◌, ◌≤◌, ◌<◌, ◌^◌, ℕ, List, [], ◌∷◌, length, None, Result, Ok, Err}
+use Rattle.std.specs.Prelude.{◌≡◌, ◌≢◌, ◌⊎◌, ◌+◌, ◌≤◌, ◌<◌, ◌^◌, ℕ, List, [], ◌∷◌, length, None, Result, Ok, Err, OnOk}
 use Rattle.disk.specs.declared.side.Side.{Side}
 use Rattle.disk.specs.declared.side.Side.TheVariants.{A, B}
 use Rattle.disk.specs.File.{File, at_rest}
@@ -65,6 +65,18 @@ StandsBeforeOrAfter g E X commit contents = Stands contents g E X ⊎ Stands con
 -- file B has its closed gate before file A has a byte
 abbrev pub BComesFirst : Contents → Type 0
 BComesFirst contents = (contents A ≡ []) ⊎ (contents B ≡ 0 ∷ [])
+
+-- one of the files has bytes
+abbrev pub OneHasBytes : (Side → File) → Type 0
+OneHasBytes files = ((files A).content ≢ []) ⊎ ((files B).content ≢ [])
+
+-- what is so if both files are empty, and A is so on the disk
+abbrev pub OfEmptyFiles : (Side → File) → Type 0 → Type 0
+OfEmptyFiles files P = files A ≡ at_rest [] → (files B).content ≡ [] → P
+
+-- an empty file gets these bytes, which begin with a closed gate, and then its gate is opened
+abbrev pub GetsOpened : {T E : Type 0} → List ℕ → File → File → Result T E → Type 0
+GetsOpened bytes old new result = (rest : List ℕ) → bytes ≡ 0 ∷ rest → old.content ≡ [] → OnOk result (new ≡ at_rest (1 ∷ rest))
 
 -- ---- sides
 

@@ -1,5 +1,5 @@
 -- What a file is while its side is written anew.
-use Rattle.std.specs.Prelude.{◌≡◌, ◌≢◌, ◌⊎◌, ℕ, false, List, [], ◌∷◌, Some, slice_get, Result, OnOk}
+use Rattle.std.specs.Prelude.{◌≡◌, ◌≢◌, ◌⊎◌, ℕ, false, List, [], ◌∷◌, Some, slice_get, Result, OnOk, Bool, MatchBool}
 use Rattle.disk.specs.declared.storage.Disk.{Ghosts}
 use Rattle.disk.specs.declared.side.Side.{Side}
 use Rattle.disk.specs.File.{Durable, File, at_rest}
@@ -17,6 +17,10 @@ pub record IsShut (bytes : List ℕ) : Type 0 where
 -- they are none, or begin with an open gate
 abbrev pub IsUnshut : List ℕ → Type 0
 IsUnshut bytes = (bytes ≡ []) ⊎ IsOpen bytes
+
+-- the answer says whether the bytes begin with a gate that is not open
+abbrev pub TellsShut : List ℕ → Bool → Type 0
+TellsShut bytes shut = MatchBool shut (IsShut bytes) (IsUnshut bytes)
 
 -- all of the file is on the disk
 abbrev pub Rests : File → Type 0
@@ -49,6 +53,10 @@ MayShut old bytes = (bytes ≡ old) ⊎ IsShut bytes
 -- or it leaves the new bytes
 abbrev pub MayTurn : List ℕ → List ℕ → List ℕ → Type 0
 MayTurn old new bytes = MayShut old bytes ⊎ (bytes ≡ new)
+
+-- at each moment a crash leaves of this file bytes that begin with a gate that is not open, and of the other what it might have left before
+abbrev pub LeavesShut : {D : Type 0} → Ghosts D → Side → D → D → Type 0
+LeavesShut storage side old new = Leaves storage old new (λ contents. IsShut (contents side) × OtherMayBe side (storage.files old) contents)
 
 -- What writing a file anew leaves, on an honest disk: these bytes, all of them on the disk; the other file stays. If the file has a first byte, a crash at any moment
 -- leaves the old bytes, the new ones, or bytes that begin with a gate that is not open.

@@ -1,4 +1,4 @@
-ghost use Rattle.std.specs.Prelude.{◌≡◌, ◌≢◌, ◌≤◌, ◌<◌, ◌+◌, ◌^◌, ◌⊎◌, ◌↔◌, ℕ, true, false, List, [], ◌∷◌, length, IsTrue, IfOk, OnOk};
+ghost use Rattle.std.specs.Prelude.{◌≡◌, ◌<◌, ◌+◌, ◌^◌, true, false, [], ◌∷◌, length, IsTrue, IfOk, OnOk};
 ghost use Rattle.disk.specs.Storage.{Leaves, Reports};
 ghost use Rattle.disk.specs.File.{at_rest};
 ghost use Rattle.disk.specs.declared.side.Side.{Side};
@@ -8,7 +8,7 @@ ghost use Rattle.sides.specs.Side.{behind_gate};
 ghost use Rattle.vault.specs.Calls.{IsCreated, IsNew, LeavesNonEmpty, RefusesToMake};
 ghost use Rattle.vault.specs.Made.{AreNewFiles, IsMade};
 ghost use Rattle.sides.specs.Reading.{IsCanonical};
-ghost use Rattle.vault.specs.Store.{BComesFirst, disk_of, answer_of, empty};
+ghost use Rattle.vault.specs.Store.{BComesFirst, disk_of, answer_of, empty, OneHasBytes, OfEmptyFiles, GetsOpened};
 ghost use Rattle.vault.specs.Opened.{OnlyReads};
 ghost use Rattle.vault.specs.declared.error.VaultError.TheVariants.{Exists};
 ghost use Rattle.sides.specs.declared.gate.TheConstants.{FORMAT};
@@ -123,7 +123,7 @@ fn no_facts(alloc: Global) -> Image
 // Whether a file is not empty.
 fn is_there<D: Disk>(disk: &mut D) -> Result<bool, DiskError>
     ensures empty { IsTrue D.is_honest → (side : Side) → IfOk result (λ some. some ≡ false → (D.files disk.old side).content ≡ []) }
-    ensures there { IsTrue D.is_honest → IfOk result (λ some. some ≡ true → ((D.files disk.old A).content ≢ []) ⊎ ((D.files disk.old B).content ≢ [])) }
+    ensures there { IsTrue D.is_honest → IfOk result (λ some. some ≡ true → OneHasBytes (D.files disk.old)) }
     ensures same { IsTrue D.is_honest → (side : Side) → D.files disk.new side ≡ D.files disk.old side }
     ensures only_reads { IsTrue D.is_honest → OnlyReads D.Disk disk.old disk.new }
     ensures reports { Reports D.Disk disk.old disk.new result }
@@ -136,9 +136,9 @@ fn is_there<D: Disk>(disk: &mut D) -> Result<bool, DiskError>
 // Writes both sides of a new store on empty files: B, closed; then A, closed at first, and opened when all of it is on
 // the disk.
 fn write_sides<D: Disk>(disk: &mut D, bytes: &[u8]) -> Result<(), DiskError>
-    ensures a { IsTrue D.is_honest → (rest : List ℕ) → bytes.now ≡ 0 ∷ rest → (D.files disk.old A).content ≡ [] → OnOk result (D.files disk.new A ≡ at_rest (1 ∷ rest)) }
+    ensures a { IsTrue D.is_honest → GetsOpened bytes.now (D.files disk.old A) (D.files disk.new A) result }
     ensures b { IsTrue D.is_honest → (D.files disk.old B).content ≡ [] → OnOk result (D.files disk.new B ≡ at_rest (0 ∷ [])) }
-    ensures begins { IsTrue D.is_honest → D.files disk.old A ≡ at_rest [] → (D.files disk.old B).content ≡ [] → Leaves D.Disk disk.old disk.new BComesFirst }
+    ensures begins { IsTrue D.is_honest → OfEmptyFiles (D.files disk.old) (Leaves D.Disk disk.old disk.new BComesFirst) }
     ensures reports { Reports D.Disk disk.old disk.new result }
 {
     write_synced(disk, Side::B, 0, &[0])?;

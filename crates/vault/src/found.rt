@@ -1,9 +1,9 @@
-ghost use Rattle.std.specs.Prelude.{◌≡◌, ◌≢◌, ℕ, IfOk, IfErr, IsErrOf};
+ghost use Rattle.std.specs.Prelude.{◌≡◌, ℕ, IfOk, IfErr, IsErrOf};
 ghost use Rattle.disk.specs.declared.side.Side.{Side};
 ghost use Rattle.sides.specs.Reading.{IsRead};
-ghost use Rattle.sides.specs.Side.{HasGeneration};
+ghost use Rattle.sides.specs.Side.{HasGeneration, IsNoSide};
 ghost use Rattle.vault.specs.Store.{SaysNothing};
-ghost use Rattle.vault.specs.Opened.{IsFoundIn, IsNoSide, IsOfOpening, IsSound};
+ghost use Rattle.vault.specs.Opened.{IsFoundIn, IsOfOpening, IsSoundFound};
 ghost use Rattle.vault.specs.declared.error.VaultError.TheVariants.{Device, NotAStore, Damaged};
 
 use crate::VaultError;
@@ -31,7 +31,7 @@ pub(crate) struct Found {
 pub(crate) fn found_in(alloc: Global, side: Side, bytes: Vec<u8>) -> Result<Found, VaultError>
     ensures found { IfOk result (IsFoundIn side bytes.items) }
     ensures kept { IfOk result (λ found. IsFoundIn found.journal.side found.bytes.items found) }
-    ensures sound { IfOk result (λ found. IsSound found.graph found.holdings found.generation found.journal.end found.text.items) }
+    ensures sound { IfOk result IsSoundFound }
     ensures nothing { (generation : ℕ) → HasGeneration bytes.items generation → IfErr result (λ error. SaysNothing error → IsNoSide bytes.items) }
     ensures cause { (generation : ℕ) → HasGeneration bytes.items generation → IfErr result (λ error. SaysNothing error → (place : ℕ) × (error ≡ Damaged side place)) }
     ensures others { IfErr result IsOfOpening }
@@ -52,7 +52,7 @@ pub(crate) fn found_in(alloc: Global, side: Side, bytes: Vec<u8>) -> Result<Foun
 fn found_of(alloc: Global, side: Side, generation: u64, standing: Standing, bytes: Vec<u8>) -> Found
     ensures found { IsRead bytes.items generation standing → IsFoundIn side bytes.items result }
     ensures kept { IsRead bytes.items generation standing → IsFoundIn result.journal.side result.bytes.items result }
-    ensures sound { IsRead bytes.items generation standing → IsSound result.graph result.holdings result.generation result.journal.end result.text.items }
+    ensures sound { IsRead bytes.items generation standing → IsSoundFound result }
 {
     sides_go_on();
     one_item_each();

@@ -1,8 +1,8 @@
-ghost use Rattle.std.specs.Prelude.{◌≡◌, ◌≢◌, ◌<◌, ◌^◌, ◌∷◌, [], length, IsTrue, IfOk, OnOk, MatchBool};
+ghost use Rattle.std.specs.Prelude.{◌≡◌, ◌≢◌, ◌<◌, ◌^◌, ◌∷◌, [], length, IsTrue, IfOk, OnOk};
 ghost use Rattle.disk.specs.Storage.{KeepsFiles, Leaves, Reports};
 ghost use Rattle.disk.specs.Time.{OtherStays, OtherMayBe};
 ghost use Rattle.vault.specs.Stands.{other_side};
-ghost use Rattle.vault.specs.Turned.{WritesAnew, IsShut, IsUnshut, Rests, RestsShut, HasAfterGate, HasBehindGate, MayShut};
+ghost use Rattle.vault.specs.Turned.{WritesAnew, Rests, RestsShut, HasAfterGate, HasBehindGate, MayShut, LeavesShut, TellsShut};
 
 use codec::ImageSource;
 use disk::{Disk, DiskError, Side, write_synced};
@@ -48,7 +48,7 @@ fn write_behind<D: Disk, S: ImageSource + Drop>(
     requires few { length (S.left behind) < 2 ^ 63 }
     ensures written { IsTrue D.is_honest → OnOk result (HasBehindGate (D.files disk.new side) (S.left behind)) }
     ensures other { IsTrue D.is_honest → OtherStays side (D.files disk.old) (D.files disk.new) }
-    ensures any_moment { IsTrue D.is_honest → Leaves D.Disk disk.old disk.new (λ contents. IsShut (contents side) × OtherMayBe side (D.files disk.old) contents) }
+    ensures any_moment { IsTrue D.is_honest → LeavesShut D.Disk side disk.old disk.new }
     ensures reports { Reports D.Disk disk.old disk.new result }
 {
     disk.cut(side, 1)?;
@@ -69,7 +69,7 @@ fn write_pieces<D: Disk, S: ImageSource + Drop>(
     requires few { length (S.left behind) < 2 ^ 63 }
     ensures written { IsTrue D.is_honest → OnOk result (HasAfterGate (D.files disk.new side) (S.left behind)) }
     ensures other { IsTrue D.is_honest → OtherStays side (D.files disk.old) (D.files disk.new) }
-    ensures any_moment { IsTrue D.is_honest → Leaves D.Disk disk.old disk.new (λ contents. IsShut (contents side) × OtherMayBe side (D.files disk.old) contents) }
+    ensures any_moment { IsTrue D.is_honest → LeavesShut D.Disk side disk.old disk.new }
     ensures reports { Reports D.Disk disk.old disk.new result }
 {
     let mut behind = behind;
@@ -101,7 +101,7 @@ fn close_gate<D: Disk>(disk: &mut D, side: Side) -> Result<(), DiskError>
 
 // Whether a file begins with a gate that is not open.
 fn is_shut<D: Disk>(disk: &mut D, side: Side) -> Result<bool, DiskError>
-    ensures shut { IsTrue D.is_honest → IfOk result (λ shut. MatchBool shut (IsShut (D.files disk.old side).content) (IsUnshut (D.files disk.old side).content)) }
+    ensures shut { IsTrue D.is_honest → IfOk result (TellsShut (D.files disk.old side).content) }
     ensures kept { IsTrue D.is_honest → KeepsFiles D.Disk disk.old disk.new }
     ensures reports { Reports D.Disk disk.old disk.new result }
 {

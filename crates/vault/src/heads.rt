@@ -1,4 +1,4 @@
-ghost use Rattle.std.specs.Prelude.{◌≡◌, ◌⊎◌, ◌≤◌, ◌<◌, ◌≢◌, ◌↔◌, ℕ, None, length, IsTrue, IfOk, IfErr, IsErrOf};
+ghost use Rattle.std.specs.Prelude.{◌≡◌, ◌⊎◌, ◌<◌, ℕ, None, length, IsTrue, IfOk, IfErr, IsErrOf};
 ghost use Rattle.disk.specs.Storage.{Errs, Reports, ReportsAs};
 ghost use Rattle.disk.specs.declared.side.Side.{Side};
 ghost use Rattle.disk.specs.declared.side.Side.TheVariants.{A, B};
@@ -6,8 +6,7 @@ ghost use Rattle.disk.specs.Time.{Contents};
 ghost use Rattle.sides.specs.Reading.{Tells};
 ghost use Rattle.sides.specs.Side.{HasGeneration};
 ghost use Rattle.vault.specs.Store.{SaysNothing};
-ghost use Rattle.vault.specs.Opened.{OnlyReads, IsGenerationOf, IsAhead, AreOfOneGeneration, HeadsFault, StandsForNothing, NoneIsOpen, IsOfOpening, contents_of, SaysCutShort};
-ghost use Rattle.vault.specs.declared.error.VaultError.{VaultError as Cause};
+ghost use Rattle.vault.specs.Opened.{OnlyReads, IsGenerationOf, IsAhead, AreOfOneGeneration, HeadsFault, StandsForNothing, NoneIsOpen, IsOfOpening, contents_of, SaysCutShort, MeansNothing, ReturnsFault, OfGenerations};
 ghost use Rattle.vault.specs.declared.error.VaultError.TheVariants.{Device, NoMemory, NotAStore, Damaged};
 
 use crate::VaultError;
@@ -20,8 +19,8 @@ const GENERATION: u64 = 2;
 // The side that has a generation while the other one is closed or has a smaller one.
 pub(crate) fn live_side<D: Disk>(disk: &mut D) -> Result<Side, VaultError>
     ensures ahead { IsTrue D.is_honest → IfOk result (IsAhead (contents_of (D.files disk.old))) }
-    ensures nothing { IsTrue D.is_honest → IfErr result (λ error. SaysNothing error → StandsForNothing (contents_of (D.files disk.old))) }
-    ensures heads { IsTrue D.is_honest → (error : Cause) → HeadsFault (contents_of (D.files disk.old)) error → IsErrOf result error ⊎ Errs D.Disk disk.old disk.new }
+    ensures nothing { IsTrue D.is_honest → IfErr result (MeansNothing (contents_of (D.files disk.old))) }
+    ensures heads { IsTrue D.is_honest → ReturnsFault (contents_of (D.files disk.old)) (Errs D.Disk disk.old disk.new) result }
     ensures cause { IsTrue D.is_honest → IfErr result (λ error. SaysNothing error → HeadsFault (contents_of (D.files disk.old)) error) }
     ensures same { IsTrue D.is_honest → (each : Side) → D.files disk.new each ≡ D.files disk.old each }
     ensures only_reads { IsTrue D.is_honest → OnlyReads D.Disk disk.old disk.new }
@@ -36,7 +35,7 @@ pub(crate) fn live_side<D: Disk>(disk: &mut D) -> Result<Side, VaultError>
 // The generation of a side, or `None` if it is closed. A side that is open and too short to have one is damaged, at its end.
 fn generation_of<D: Disk>(disk: &mut D, side: Side) -> Result<Option<u64>, VaultError>
     ensures generation { IsTrue D.is_honest → IfOk result (λ generation. IsGenerationOf generation (D.files disk.old side).content) }
-    ensures nothing { IsTrue D.is_honest → IfErr result (λ error. SaysNothing error → StandsForNothing (contents_of (D.files disk.old))) }
+    ensures nothing { IsTrue D.is_honest → IfErr result (MeansNothing (contents_of (D.files disk.old))) }
     ensures told { IsTrue D.is_honest → IfErr result (λ error. SaysNothing error → SaysCutShort side (D.files disk.old side).content error) }
     ensures short { IsTrue D.is_honest → IfErr result (λ error. Errs D.Disk disk.old disk.new ⊎ SaysCutShort side (D.files disk.old side).content error) }
     ensures same { IsTrue D.is_honest → (each : Side) → D.files disk.new each ≡ D.files disk.old each }
@@ -70,8 +69,8 @@ fn head_of<D: Disk>(disk: &mut D, side: Side) -> Result<(Gate, u64), DiskError>
 
 // Of two sides with these generations, `None` if closed, the one that is ahead.
 fn ahead(a: Option<u64>, b: Option<u64>) -> Result<Side, VaultError>
-    ensures ahead { (contents : Contents) → IsGenerationOf a (contents A) → IsGenerationOf b (contents B) → IfOk result (IsAhead contents) }
-    ensures nothing { (contents : Contents) → IsGenerationOf a (contents A) → IsGenerationOf b (contents B) → IfErr result (λ _. StandsForNothing contents) }
+    ensures ahead { OfGenerations a b (λ contents. IfOk result (IsAhead contents)) }
+    ensures nothing { OfGenerations a b (λ contents. IfErr result (λ _. StandsForNothing contents)) }
     ensures cause { (contents : Contents) → IsGenerationOf a (contents A) → IsGenerationOf b (contents B)
         → IfErr result (λ error. ((error ≡ NotAStore) × NoneIsOpen contents) ⊎ ((error ≡ Damaged A 2) × AreOfOneGeneration contents)) }
     ensures closed { a ≡ None → b ≡ None → IsErrOf result NotAStore }

@@ -3,11 +3,10 @@ ghost use Rattle.disk.specs.Storage.{Errs, Reports, ReportsAs};
 ghost use Rattle.disk.specs.declared.side.Side.{Side};
 ghost use Rattle.disk.specs.File.{at_rest};
 ghost use Rattle.disk.specs.Time.{HasCause};
-ghost use Rattle.vault.specs.Store.{Holds, IsReady, disk_of_opening, answer_of};
-ghost use Rattle.vault.specs.Opened.{OnlyReads, IsFound, IsFoundIn, IsSound, TellsWhy, IsOfOpening, contents_of};
+ghost use Rattle.vault.specs.Store.{IsReady, disk_of_opening, answer_of};
+ghost use Rattle.vault.specs.Opened.{OnlyReads, IsFound, IsFoundIn, IsSound, TellsWhy, IsOfOpening, contents_of, IsHeld, IsSoundStore};
 ghost use Rattle.vault.specs.declared.error.VaultError.TheVariants.{Device, NoMemory};
 ghost use Rattle.disk.specs.declared.error.DiskError.TheVariants as DiskError;
-ghost use Rattle.holdings.specs.Holdings.{facts_held, environment_held};
 
 use crate::found::{Found, found_in};
 use crate::heads::live_side;
@@ -36,12 +35,12 @@ pub struct Recovered<D: Disk> {
 /// the position of its length), and its journal (at the gate of the first record that is not whole and followed by a
 /// gate, is no event, or does not fit, or where the journal's first byte is missing).
 pub fn open<D: Disk>(alloc: Global, disk: D) -> Result<Recovered<D>, Refused<D>>
-    ensures found { IsTrue D.is_honest → IfOk result (λ r. Holds D.files r.vault r.graph (environment_held r.holdings) (facts_held r.holdings)) }
+    ensures found { IsTrue D.is_honest → IfOk result (IsHeld D.files) }
     ensures ready { IsTrue D.is_honest → IfOk result (λ r. IsReady D.files r.vault) }
     ensures working { IfOk result (λ r. r.vault.halted ≡ false) }
 
     // The parts of what it gives fit together, on every disk.
-    ensures sound { IfOk result (λ r. IsSound r.graph r.holdings r.vault.generation r.vault.journal.end r.vault.text.items) }
+    ensures sound { IfOk result IsSoundStore }
 
     // What a refusal says of the files.
     ensures tells { IsTrue D.is_honest → TellsWhy (contents_of (D.files disk)) (Errs D.Disk disk (disk_of_opening result)) (answer_of result) }

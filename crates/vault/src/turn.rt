@@ -1,11 +1,9 @@
-ghost use Rattle.std.specs.Prelude.{◌≡◌, ◌≢◌, ◌<◌, ◌≤◌, ◌+◌, ◌++◌, ◌⊎◌, ◌^◌, ℕ, [], ◌∷◌, false, length, IsTrue, MatchOption};
+ghost use Rattle.std.specs.Prelude.{◌≡◌, ◌<◌, ◌≤◌, ◌+◌, ◌++◌, ◌^◌, ◌∷◌, false, length, IsTrue, MatchOption};
 ghost use Rattle.disk.specs.Storage.{Reports};
 ghost use Rattle.byteorder.specs.Endian.{little_bytes};
-ghost use Rattle.terms.specs.Sets.{Facts};
-ghost use Rattle.graph.specs.Graph.{Graph};
 ghost use Rattle.journal.specs.declared.journal.TheConstants.{LIMIT};
-ghost use Rattle.vault.specs.Calls.{Halts, RefusesTurn, TurnsFor, TurnsOver, WritesSide};
-ghost use Rattle.vault.specs.Store.{Holds, IsReady, new_side};
+ghost use Rattle.vault.specs.Calls.{Halts, RefusesTurn, TurnsOver, WritesSide, TurnsStore};
+ghost use Rattle.vault.specs.Store.{IsReady, new_side};
 ghost use Rattle.vault.specs.Turned.{Rests, WritesAnew};
 ghost use Rattle.vault.specs.declared.error.VaultError.TheVariants.{Full};
 ghost use Rattle.sides.specs.declared.gate.TheConstants.{FORMAT};
@@ -38,7 +36,7 @@ impl<D: Disk> Vault<D> {
         requires room { 0 < length buffer.old }
         requires store { IsTrue D.is_honest → self.old.halted ≡ false → IsReady D.files self.old }
 
-        ensures turns { IsTrue D.is_honest → (g : Graph) (E X : Facts) → Holds D.files self.old g E X → TurnsFor D.Disk self.old self.new g E X (S.left source) result }
+        ensures turns { IsTrue D.is_honest → TurnsStore D.Disk self.old self.new (S.left source) result }
         ensures written { IsTrue D.is_honest → WritesSide D.files self.old self.new (S.left source) result }
         ensures over { TurnsOver self.old self.new (S.left source) result }
         ensures refused { RefusesTurn D.Disk self.old self.new (S.left source) result }

@@ -2,8 +2,8 @@ use Rattle.std.proofs.Common.{ℕ, List, inl, inr, ap, subst, sym, ◌∙◌, ru
 use Rattle.std.proofs.lemmas.Result.{IfOk-weaker, IfErr-weaker}
 use Rattle.disk.specs.File.{File}
 use Rattle.disk.specs.declared.side.Side.{Side}
-use Rattle.sides.specs.Side.{HasGeneration}
-use Rattle.vault.specs.Opened.{IsNoSide, contents_of}
+use Rattle.sides.specs.Side.{HasGeneration, IsNoSide}
+use Rattle.vault.specs.Opened.{contents_of}
 use Rattle.vault.proofs.OpenedCalls.{then_reads}
 use Rattle.vault.proofs.HeadsFaults.{told_on, same_error}
 use Rattle.vault.proofs.ErredCalls.{ok_is_no_error, none_erred}
