@@ -3,7 +3,7 @@ ghost use Rattle.machine.specs.Machine.{environment, facts};
 ghost use Rattle.machine.specs.State.{IsReached};
 ghost use Rattle.commit.specs.Core as core_of;
 ghost use Rattle.audit.specs.declared.certificate.VerifyError.TheVariants.{Halted, NoMemory};
-ghost use Rattle.audit.specs.Replayed.{AreStuck, IsReplayed};
+ghost use Rattle.audit.specs.Replayed.{AreStuck, IsReplayed, IsGenuine};
 
 use crate::begin::begin;
 use crate::fault::is_at_fault;
@@ -58,8 +58,8 @@ pub fn verify<D: Disk, P: Progress>(
     core: &Core<D>,
     progress: &mut P,
 ) -> Result<(), VerifyError>
-    ensures certified { OnOk result (IsReached (core_of.graph core.now) (core_of.environment core.now) (core_of.facts core.now)) }
-    ensures genuine { core_of.is_halted core.now ≡ false → IsReached (core_of.graph core.now) (core_of.environment core.now) (core_of.facts core.now) → IfErr result (λ why. why ≡ NoMemory) }
+    ensures certified { OnOk result (IsGenuine core.now) }
+    ensures genuine { core_of.is_halted core.now ≡ false → IsGenuine core.now → IfErr result (λ why. why ≡ NoMemory) }
     ensures halted { (result ≡ Err Halted) ↔ (core_of.is_halted core.now ≡ true) }
 {
     if core.status().is_err() {

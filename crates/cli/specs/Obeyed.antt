@@ -1,7 +1,7 @@
 -- What a command did with a store, what it wrote, and what it came to.
 use Rattle.disk.specs.Storage.{Errs, ReportsAs}
 use Rattle.disk.specs.declared.storage.Disk.{Ghosts}
-use Rattle.std.specs.Prelude.{◌≡◌, ◌⊎◌, ◌<◌, ◌↔◌, ℕ, true, false, List, ◌++◌, codes, Option, Result, Ok, Err, IfErr, MatchResult, OnOk, IsTrue}
+use Rattle.std.specs.Prelude.{◌≡◌, ◌⊎◌, ◌<◌, ◌↔◌, ℕ, true, false, List, ◌++◌, codes, Option, Result, Ok, Err, IfErr, MatchResult, OnOk, IsTrue, Bool}
 use Rattle.std.specs.Fmt.{decimal}
 use Rattle.std.specs.Io.KnownBytes.{Appends}
 use Rattle.disk.specs.declared.mem_disk.MemDisk.{MemDisk}
@@ -16,7 +16,6 @@ use Rattle.audit.specs.declared.certificate.VerifyError.{VerifyError}
 use Rattle.audit.specs.declared.certificate.VerifyError.TheVariants as verify
 use Rattle.machine.specs.Counts.{AreCountsOf}
 use Rattle.machine.specs.declared.counts.Counts.{Counts}
-use Rattle.machine.specs.State.{IsReached}
 use Rattle.vault.specs.declared.reading.LiveSide.{LiveSide}
 use Rattle.vault.specs.LiveSides.{IsSideOf, StoodAfter}
 use Rattle.vault.specs.Opened.{IsOfOpening, OnlyReads, TellsWhy, contents_of}
@@ -35,7 +34,7 @@ use Rattle.report.specs.Formats.{IsReportIn}
 use Rattle.report.specs.ReportText.{line}
 use Rattle.session.specs.declared.ending.Ending.{Ending}
 use Rattle.session.specs.declared.error.SessionError.{SessionError}
-use Rattle.session.specs.Answers.{Drive}
+use Rattle.session.specs.Answers.{Drive, drive_by}
 use Rattle.session.specs.Fails.{Answers, IsAllOrTooLarge}
 use Rattle.cli.specs.declared.outcome.Failure.TheVariants as failure
 use Rattle.cli.specs.declared.outcome.Left.{Left}
@@ -46,6 +45,9 @@ use Rattle.cli.specs.Logged.{FailsToLog, IsLogOf}
 use Rattle.cli.specs.declared.words.Command.{Command}
 use Rattle.cli.specs.declared.words.Command.TheVariants as asked
 use Rattle.cli.specs.Outcomes.{failure_of_creation, failure_of_report, failure_of_session, failure_of_turn}
+use Rattle.audit.specs.Replayed.{IsGenuine}
+use Rattle.pool.specs.declared.driver.Driver.{Driver}
+use Rattle.cli.specs.declared.words.TheConstants.{MOST_LIMIT}
 
 -- `left` says whether the store has a fault, and whether fewer of its instances are done than are prescribed
 pub record IsLeft {D : Type 0} (c : Core D) (left : Left) : Type 0 where
@@ -122,10 +124,6 @@ ReportsSide live count format before behind outcome =
     ⊎ ((outcome ≡ Failed failure.NoMemory) × (behind ≡ before))
 
 -- ---- a certificate
-
--- legal events lead to what the store holds
-abbrev pub IsGenuine : {D : Type 0} → Core D → Type 0
-IsGenuine core = IsReached (graph core) (environment core) (facts core)
 
 module _ {D : Type 0} (storage : Ghosts D) where
   -- ---- a creation
@@ -232,3 +230,8 @@ module _ {D : Type 0} (storage : Ghosts D) where
   Obeys drive (asked.Verify directory) input before behind old new outcome = IsNotOpened before behind old new outcome ⊎ Verifies before behind old new outcome
   Obeys drive (asked.Draw text) input before behind old new outcome = (new ≡ old) × Draws input before behind outcome
   Obeys drive (asked.DrawStore directory all) input before behind old new outcome = IsNotOpened before behind old new outcome ⊎ DrawsStore old new outcome
+
+-- the same of a driver, and of an output
+abbrev pub ObeysBy : {D W R P : Type 0} → Ghosts D → (contents : W → Option (List ℕ)) → Bool → Driver R P → Command → (input : Option (List ℕ)) → (here there : W) → D → D → Outcome → Type 0
+ObeysBy storage contents may_stop driver command input here there old new outcome =
+    Obeys storage (drive_by MOST_LIMIT may_stop driver false) command input (contents here) (contents there) old new outcome

@@ -1,10 +1,10 @@
 //! What each command does.
-ghost use Rattle.std.specs.Prelude.{◌≡◌, ◌⊎◌, false, IfOk, IfErr, IsTrue, Ok, codes};
+ghost use Rattle.std.specs.Prelude.{◌≡◌, ◌⊎◌, false, IfOk, IfErr, Ok, codes};
 ghost use Rattle.graph.specs.declared.limits.TheConstants.{MOST_TEXT};
 ghost use Rattle.commit.specs.Runs.{NoneRuns};
 ghost use Rattle.session.specs.Answers.{drive_by};
-ghost use Rattle.session.specs.Fails.{AnswersInput, IsAllOrTooLarge};
-ghost use Rattle.cli.specs.Obeyed.{CreatesOrNot, Draws, DrawsStore, IsDrawn, IsLeft, IsNotOpened, Obeys, Reports, Runs, SaysOrFails, TellsReport, TellsSession, TellsTurn, TurnsOver};
+ghost use Rattle.session.specs.Fails.{AnswersInput, IsAllOrTooLarge, AnswersWith};
+ghost use Rattle.cli.specs.Obeyed.{CreatesOrNot, Draws, DrawsStore, IsDrawn, IsLeft, IsNotOpened, Obeys, Reports, Runs, SaysOrFails, TellsReport, TellsSession, TellsTurn, TurnsOver, ObeysBy};
 ghost use Rattle.cli.specs.Outcomes.{status_of};
 ghost use Rattle.cli.specs.declared.outcome.Failure.TheVariants as failure;
 ghost use Rattle.cli.specs.declared.outcome.Outcome.{Outcome as Came};
@@ -74,7 +74,7 @@ pub fn obey<D: Disk + Send, R: Read, W: Write, E: Errors, H: Threads + Wait + Sy
     driver: &Driver<'_, H, P>,
 ) -> (D, u8)
     ensures { (outcome : Came) × (result.1 ≡ status_of outcome)
-        × Obeys D.Disk (drive_by MOST_LIMIT P.may_stop driver.now false) command.now (R.remaining input.old) (W.contents out.old) (W.contents out.new) disk result.0 outcome }
+        × ObeysBy D.Disk W.contents P.may_stop driver.now command.now (R.remaining input.old) out.old out.new disk result.0 outcome }
 {
     let (disk, outcome) = obeyed(alloc, command, disk, input, out, err, driver);
     if let Outcome::Failed(failure) = &outcome {
@@ -93,7 +93,7 @@ fn obeyed<D: Disk + Send, R: Read, W: Write, E: Errors, H: Threads + Wait + Sync
     err: &mut E,
     driver: &Driver<'_, H, P>,
 ) -> (D, Outcome)
-    ensures { Obeys D.Disk (drive_by MOST_LIMIT P.may_stop driver.now false) command.now (R.remaining input.old) (W.contents out.old) (W.contents out.new) disk result.0 result.1 }
+    ensures { ObeysBy D.Disk W.contents P.may_stop driver.now command.now (R.remaining input.old) out.old out.new disk result.0 result.1 }
 {
     match *command {
         Command::Create { .. } => create(alloc, disk, input, out),
@@ -268,7 +268,7 @@ fn run_session<D: Disk + Send, R: Read, W: Write, H: Threads + Wait + Sync, P: P
     limit: u64,
 ) -> (Core<D>, Result<Ending, SessionError>)
     requires { NoneRuns core }
-    ensures { AnswersInput D.Disk W.contents (drive_by limit P.may_stop driver.now) (R.remaining input.old) out.old out.new core result.0 result.1 }
+    ensures { AnswersWith D.Disk W.contents limit P.may_stop driver.now (R.remaining input.old) out.old out.new core result.0 result.1 }
 {
     let mut source = ReaderSource {
         input,

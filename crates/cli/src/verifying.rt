@@ -2,7 +2,8 @@
 ghost use Rattle.std.specs.Prelude.{◌≡◌, ◌⊎◌, false, codes, IfErr, IsTrue, OnOk};
 ghost use Rattle.commit.specs.Core.{is_halted};
 ghost use Rattle.audit.specs.declared.certificate.VerifyError.TheVariants.{NoMemory};
-ghost use Rattle.cli.specs.Obeyed.{IsGenuine, IsNotOpened, SaysOrFails, TellsCertificate, Verifies};
+ghost use Rattle.audit.specs.Replayed.{IsGenuine};
+ghost use Rattle.cli.specs.Obeyed.{IsNotOpened, SaysOrFails, TellsCertificate, Verifies};
 ghost use Rattle.cli.specs.declared.outcome.Outcome.TheVariants.{Verified};
 
 use crate::{Errors, Failure, Outcome};

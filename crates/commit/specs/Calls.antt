@@ -1,7 +1,7 @@
 -- What the calls of a core promise: the event that comes at `Ok`, and what an error says and leaves.
 use Rattle.disk.specs.Storage.{Errs, Leaves, ReportsAs}
 use Rattle.disk.specs.declared.storage.Disk.{Ghosts}
-use Rattle.std.specs.Prelude.{◌≡◌, ◌≢◌, ◌⊎◌, ◌↔◌, ◌≤◌, ◌+◌, ℕ, true, false, List, [], ◌∷◌, length, Result, Some, IsErrOf, OnOk, OnErr, IfErr, IsTrue}
+use Rattle.std.specs.Prelude.{◌≡◌, ◌≢◌, ◌⊎◌, ◌↔◌, ◌≤◌, ◌+◌, ℕ, true, false, List, [], ◌∷◌, length, Result, Some, IsErrOf, OnOk, OnErr, IfErr, IsTrue, ℤ}
 use Rattle.terms.specs.declared.name.Inst.{Inst}
 use Rattle.terms.specs.declared.event.Event.{Event}
 use Rattle.terms.specs.declared.event.Event.TheVariants.{EnvItem, EnvTag, Done, Stopped}
@@ -19,6 +19,8 @@ use Rattle.vault.specs.Opened.{contents_of}
 use Rattle.commit.specs.declared.error.CoreError.{CoreError}
 use Rattle.commit.specs.declared.error.CoreError.TheVariants.{Refused, Store}
 use Rattle.commit.specs.Core.{Core, graph, facts, environment, state_of, is_halted}
+use Rattle.terms.specs.declared.name.Addr.{Addr}
+use Rattle.terms.specs.declared.name.Tag.{Tag}
 
 -- ---- events
 
@@ -148,6 +150,13 @@ pub record CommitsAs {D T : Type 0} (storage : Ghosts D) (old new : Core D) (why
   pub commits : Commits storage old new why event result
   pub unchanged : OnErr result (IsUnchanged old new)
   pub halts : Halts storage old new result
+
+-- such a call of the environment: it puts an item, or a tag
+abbrev pub PutsItem : {D T : Type 0} → Ghosts D → Core D → Core D → Addr → ℤ → Result T CoreError → Type 0
+PutsItem storage old new address value result = CommitsAs storage old new (machine.RefusesItem (graph old) (facts old) address) (EnvItem address value) result
+
+abbrev pub PutsTag : {D T : Type 0} → Ghosts D → Core D → Core D → Tag → Result T CoreError → Type 0
+PutsTag storage old new tag result = CommitsAs storage old new (machine.RefusesTag (graph old) (facts old) tag) (EnvTag tag) result
 
 -- nothing has changed but the states of instances and the allowance: such is each claim, park, release and allowance, and each call of a halted core
 pub record KeepsStore {D : Type 0} (old new : Core D) : Type 0 where

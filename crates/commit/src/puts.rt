@@ -5,13 +5,13 @@ use terms::{Addr, Event, Put, Tag};
 use vault::{VaultError, stores_go_on};
 
 impl<D: Disk> Core<D> {
-    ghost use Rattle.std.specs.Prelude.{◌≡◌, false, [], ◌∷◌, IsTrue, IfErr, OnOk};
+    ghost use Rattle.std.specs.Prelude.{◌≡◌, false, [], ◌∷◌, IfErr, OnOk};
     ghost use Rattle.terms.specs.declared.event.Event.TheVariants.{EnvItem, EnvTag};
     ghost use Rattle.terms.specs.declared.put.Put.TheVariants.{Item, Tag as Name};
     ghost use Rattle.machine.specs.Legal.{IsLegal};
     ghost use Rattle.machine.specs.Machine.{HasRoom, RefusesItem, RefusesTag};
     ghost use Rattle.commit.specs.Core.{facts, graph, is_halted};
-    ghost use Rattle.commit.specs.Calls.{CommitsAs};
+    ghost use Rattle.commit.specs.Calls.{PutsItem, PutsTag};
     ghost use Rattle.commit.specs.Room.{GivesRoom, RefusesFirst};
 
     /// Puts an item of the environment.
@@ -20,7 +20,7 @@ impl<D: Disk> Core<D> {
     /// of the environment in this graph; a fault stopped the store; the item is there already; `Full`. An error that does
     /// not halt leaves everything as it was.
     pub fn put_item(&mut self, addr: Addr, value: i64) -> Result<(), CoreError>
-        ensures { CommitsAs D.Disk self.old self.new (RefusesItem (graph self.old) (facts self.old) addr) (EnvItem addr value) result }
+        ensures { PutsItem D.Disk self.old self.new addr value result }
     {
         stores_go_on::<D>();
         self.is_kept();
@@ -37,7 +37,7 @@ impl<D: Disk> Core<D> {
     /// of the environment in this graph; a fault stopped the store; the tag is there already; `Full`. An error that does
     /// not halt leaves everything as it was.
     pub fn put_tag(&mut self, tag: Tag) -> Result<(), CoreError>
-        ensures { CommitsAs D.Disk self.old self.new (RefusesTag (graph self.old) (facts self.old) tag) (EnvTag tag) result }
+        ensures { PutsTag D.Disk self.old self.new tag result }
     {
         stores_go_on::<D>();
         self.is_kept();

@@ -55,3 +55,7 @@ pub record ClaimsSome {D : Type 0} (old new : Core D) (most : ℕ) (more : List 
   pub ok : IfOk result (λ runs. (new ≡ last) × ((runs ≡ true) ↔ (running_count new ≢ 0)) × (more ≡ [] → 0 < most → MayClaim old 0 → ⊥))
   pub err : IfErr result (RefusesClaim last new)
   pub halted : is_halted old ≡ true → 0 < most → IsErrOf result (Store Halted)
+
+-- the tasks of several claims were added
+abbrev pub ClaimsInto : {D : Type 0} → Opening → Known → Core D → Core D → ℕ → (before after : List Inst) → Result Bool CoreError → Type 0
+ClaimsInto opening known old new most before after result = (adds : AddsClaimed opening known most before after) × ClaimsSome old new most adds.more result

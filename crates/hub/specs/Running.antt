@@ -25,6 +25,8 @@ use Rattle.hub.specs.declared.running.Ran.{Ran}
 use Rattle.hub.specs.declared.running.Ran.TheVariants.{Ended, Waits}
 use Rattle.passes.specs.Known.{Known}
 use Rattle.hub.specs.Replies.{RefusesQuestion}
+use Rattle.passes.specs.Opening.{Opening}
+use Rattle.hub.specs.Opening.{facts_behind}
 
 -- the pass has seen no less than before, and nothing else of it has changed
 pub record IsAhead (old new : Known) : Type 0 where
@@ -78,3 +80,7 @@ pub record AsksFor (g : Graph) (X : Facts) (instance : Inst) (address : Addr) : 
 -- which errors end it: `NoMemory`, and those of a read that the body asks for
 abbrev pub StopsRun : Graph → Facts → Inst → CoreError → Type 0
 StopsRun g X instance error = (error ≡ Store NoMemory) ⊎ ((address : Addr) × AsksFor g X instance address × RefusesQuestion (RefusesRead g address) error)
+
+-- the same, of the facts behind the commits that a pass has seen, and of what a batch puts
+abbrev pub StopsRunIn : Opening → Known → Option (Bor Batch) → Inst → CoreError → Type 0
+StopsRunIn opening known kept = StopsRun opening.graph (facts_with (facts_behind opening known.seen) (kept_of kept))

@@ -13,7 +13,7 @@ use Rattle.hub.specs.declared.close.CloseError.{CloseError}
 use Rattle.hub.specs.declared.close.CloseError.TheVariants.{PassMissing, TaskOut}
 use Rattle.passes.specs.Known.{Known, Made, commits, made_by}
 use Rattle.passes.specs.Opening.{Opening}
-use Rattle.passes.specs.Roll.{AllMade, Blank, has_number, mine_of}
+use Rattle.passes.specs.Roll.{AllMade, Blank, has_number, mine_of, new_passes}
 use Rattle.passes.specs.Rule.{IsInHistory}
 use Rattle.hub.specs.Opening.{opening_of, WasTurned, AreLegalBehind, IsBehind}
 
@@ -30,6 +30,14 @@ pub record IsWhole {D : Type 0} (Ran : List Commit → Core D → Type 0) (openi
   pub ends : AllMade IsEnd workers
   pub turned : IsHaltedByTurn c → WasTurned opening
   pub ran : Ran (commits history) c
+
+-- such a history is there
+abbrev pub HasWhole : {D : Type 0} → (List Commit → Core D → Type 0) → Opening → List Known → List Known → Core D → Type 0
+HasWhole Ran opening envs workers c = (history : List Made) × IsWhole Ran opening envs workers c history
+
+-- these are the passes that a blank says
+abbrev pub AreNewPasses : Blank → List Known → List Known → Type 0
+AreNewPasses blank envs workers = (envs ≡ new_passes 0 blank.envs) × (workers ≡ new_passes blank.envs blank.workers)
 
 -- The names of a hub fit this blank and this core: they have the blank's words and counts of passes, what the core has when the hub is opened, and
 -- for each moment what a crash may leave, as the disk says then.

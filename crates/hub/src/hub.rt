@@ -54,8 +54,7 @@ impl<J: Naming, D: Disk> Hub<J, D> {
     ghost use Rattle.passes.specs.Steps.{IsCountFor};
     ghost use Rattle.hub.specs.Opening.{facts_behind};
     ghost use Rattle.commit.specs.Came.{IsOutcomeIn, IsParkedIn};
-    ghost use Rattle.commit.specs.Outcome.{end_of};
-    ghost use Rattle.hub.specs.Ends.{MayAnswer};
+    ghost use Rattle.hub.specs.Ends.{AddsEnd};
     ghost use Rattle.hub.specs.Replies.{Adds, AddsNothing, MayRun, RefusesEvent, RefusesQuestion, RefusesWait, RefusesWatch, SaysHalted, Sees};
     ghost use Rattle.hub.specs.Tasks.{OnTask, RefusesEndOf, RefusesTask};
     ghost use Rattle.commit.specs.Batch.{HaveOutcomes, ends_said};
@@ -268,7 +267,7 @@ impl<J: Naming, D: Disk> Hub<J, D> {
     ) -> Result<Committed, TaskError>
         requires { IsOutcomeIn J.opening.graph (facts_behind J.opening pass.old.seen) task outcome }
         ensures seen { Sees J.opening pass.old pass.new }
-        ensures ok { IfOk result (λ committed. MayAnswer outcome.entry committed × Adds (end_of committed task outcome.entry ∷ []) pass.old pass.new) }
+        ensures ok { IfOk result (AddsEnd task outcome.entry pass.old pass.new) }
         ensures err { OnErr result (AddsNothing pass.old pass.new) }
         ensures refused { RefusesTask task (RefusesEndOf J.opening pass.new task outcome.entry) result }
     {

@@ -67,15 +67,13 @@ impl<J: Naming, D: Disk> Kept<J, D> {
     ghost use Rattle.commit.specs.Core.{facts, graph, is_halted};
     ghost use Rattle.passes.specs.Known.{commits};
     ghost use Rattle.passes.specs.Visits.{Shows, Writes};
-    ghost use Rattle.disk.specs.Time.{Contents, MayLeaveNow};
     ghost use Rattle.hub.specs.Opening.{AreLegalBehind, IsBehind, WasTurned, facts_behind};
-    ghost use Rattle.hub.specs.Kept.{CrashLeavesHistory, HasRun, IsBusy, IsKept};
-    ghost use Rattle.commit.specs.Outcome.{end_of};
-    ghost use Rattle.hub.specs.Ends.{MayAnswer};
+    ghost use Rattle.hub.specs.Kept.{CrashLeavesHistory, HasRun, IsBusy, IsKept, LeavesOpening};
+    ghost use Rattle.hub.specs.Ends.{AddsEnd, WritesEnd};
     ghost use Rattle.hub.specs.Replies.{Adds, AddsNoCommit, AddsNothing, MayRun, RefusesEvent, RefusesQuestion, RefusesWait, RefusesWatch, SaysHalted, Sees};
     ghost use Rattle.hub.specs.Tasks.{CallsWith, RefusesEndOf, RefusesTask};
     ghost use Rattle.instances.specs.declared.state.State.TheVariants.{Ready};
-    ghost use Rattle.commit.specs.Calls.{CommitsAs};
+    ghost use Rattle.commit.specs.Calls.{PutsItem, PutsTag};
     ghost use Rattle.commit.specs.Gets.{Gets};
     ghost use Rattle.commit.specs.Runs.{Ends};
     ghost use Rattle.commit.specs.Came.{IsOutcomeIn, IsParkedIn};
@@ -101,7 +99,7 @@ impl<J: Naming, D: Disk> Kept<J, D> {
         ensures behind { IsBehind J.opening (commits self.now.history) self.now.core }
         ensures legal { AreLegalBehind J.opening (commits self.now.history) }
         ensures crash { IsTrue D.is_honest → (WasTurned J.opening → ⊥) → CrashLeavesHistory D.files J.opening self.now }
-        ensures rests { IsTrue D.is_honest → J.opening.halted ≡ true → (contents : Contents) → MayLeaveNow (D.files self.now.core.vault.disk) contents → J.left J.opening.moment contents }
+        ensures rests { IsTrue D.is_honest → LeavesOpening D.files J.opening J.left self.now }
         ensures settled { is_halted self.now.core ≡ false → self.now.core.in_doubt ≡ [] }
     {
         self.core.is_kept();
@@ -115,7 +113,7 @@ impl<J: Naming, D: Disk> Kept<J, D> {
         addr: Addr,
         value: i64,
     ) -> Result<(), CoreError>
-        ensures core { CommitsAs D.Disk self.old.core self.new.core (RefusesItem (graph self.old.core) (facts self.old.core) addr) (EnvItem addr value) result }
+        ensures core { PutsItem D.Disk self.old.core self.new.core addr value result }
         ensures history { OnOk result (Writes (EnvItem addr value ∷ []) self.old.history self.new.history pass.old pass.new) }
         ensures seen { Sees J.opening pass.old pass.new }
         ensures ok { OnOk result (Adds (EnvItem addr value ∷ []) pass.old pass.new) }
@@ -148,7 +146,7 @@ impl<J: Naming, D: Disk> Kept<J, D> {
         pass: &mut EnvPass<J>,
         tag: Tag,
     ) -> Result<(), CoreError>
-        ensures core { CommitsAs D.Disk self.old.core self.new.core (RefusesTag (graph self.old.core) (facts self.old.core) tag) (EnvTag tag) result }
+        ensures core { PutsTag D.Disk self.old.core self.new.core tag result }
         ensures history { OnOk result (Writes (EnvTag tag ∷ []) self.old.history self.new.history pass.old pass.new) }
         ensures seen { Sees J.opening pass.old pass.new }
         ensures ok { OnOk result (Adds (EnvTag tag ∷ []) pass.old pass.new) }
@@ -315,9 +313,9 @@ impl<J: Naming, D: Disk> Kept<J, D> {
     ) -> Result<Committed, TaskError>
         requires { IsOutcomeIn J.opening.graph (facts_behind J.opening pass.old.seen) task outcome }
         ensures core { CallsWith self.old self.new task (Ends D.Disk self.old.core self.new.core task outcome.entry) result }
-        ensures history { IfOk result (λ committed. Writes (end_of committed task outcome.entry ∷ []) self.old.history self.new.history pass.old pass.new) }
+        ensures history { IfOk result (WritesEnd task outcome.entry self.old.history self.new.history pass.old pass.new) }
         ensures seen { Sees J.opening pass.old pass.new }
-        ensures ok { IfOk result (λ committed. MayAnswer outcome.entry committed × Adds (end_of committed task outcome.entry ∷ []) pass.old pass.new) }
+        ensures ok { IfOk result (AddsEnd task outcome.entry pass.old pass.new) }
         ensures err { OnErr result (AddsNoCommit self.old self.new pass.old pass.new) }
         ensures refused { RefusesTask task (RefusesEndOf J.opening pass.new task outcome.entry) result }
     {

@@ -2,7 +2,7 @@
 ghost use Rattle.std.specs.Prelude.{◌≡◌, ◌≢◌, ◌↔◌, ◌≤◌, ◌<◌, true};
 ghost use Rattle.commit.specs.Steps.{Wakes, running_count};
 ghost use Rattle.passes.specs.Visits.{Shows};
-ghost use Rattle.hub.specs.Claims.{AddsClaimed, ClaimsOne, ClaimsSome};
+ghost use Rattle.hub.specs.Claims.{ClaimsOne, ClaimsInto};
 ghost use Rattle.hub.specs.Replies.{AddsNothing, Sees};
 
 use crate::{Kept, WorkPass};
@@ -51,7 +51,7 @@ impl<J: Naming, D: Disk> Kept<J, D> {
     ) -> Result<bool, CoreError>
         ensures history { (self.new.history ≡ self.old.history) × Shows self.old.history pass.old pass.new }
         ensures seen { Sees J.opening pass.old pass.new × AddsNothing pass.old pass.new }
-        ensures core { (adds : AddsClaimed J.opening pass.new most tasks.old tasks.new) × ClaimsSome self.old.core self.new.core most adds.more result }
+        ensures core { ClaimsInto J.opening pass.new self.old.core self.new.core most tasks.old tasks.new result }
     {
         board.show(&mut self.desk, pass);
         let mut left = share_of(most, self.core.ready(), passes);

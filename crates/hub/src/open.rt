@@ -1,7 +1,6 @@
 //! The beginning of a hub.
 ghost use Rattle.std.specs.Prelude.{◌≡◌, IfOk, IfErr};
-ghost use Rattle.hub.specs.Whole.{IsNamedFor};
-ghost use Rattle.passes.specs.Roll.{new_passes};
+ghost use Rattle.hub.specs.Whole.{IsNamedFor, AreNewPasses};
 
 use crate::glance::Glance;
 use crate::{EnvPass, Hub, Kept, WorkPass};
@@ -43,7 +42,7 @@ impl<J: Naming, D: Disk> Hub<J, D> {
     /// Opens a hub on a core, with as many passes as the blank says.
     pub fn open(alloc: Global, core: Core<D>, blank: Blank) -> Result<Opened<J, D>, NotOpened<D>>
         requires { IsNamedFor D.Disk J.table J.passes J.envs J.opening J.left blank core }
-        ensures ok { IfOk result (λ opened. (opened.1.items ≡ new_passes 0 blank.envs) × (opened.2.items ≡ new_passes blank.envs blank.workers)) }
+        ensures ok { IfOk result (λ opened. AreNewPasses blank opened.1.items opened.2.items) }
         ensures err { IfErr result (λ not_opened. (not_opened.core ≡ core) × (not_opened.blank ≡ blank)) }
     {
         stores_go_on::<D>();

@@ -4,10 +4,9 @@ ghost use Rattle.graph.specs.Fits.{InstanceIsOf};
 ghost use Rattle.machine.specs.Machine.{IsValueAt, RefusesRead};
 ghost use Rattle.machine.specs.Results.{AreItems, IsBodyOf};
 ghost use Rattle.steplang.specs.Running.{IsDue, reads_with};
-ghost use Rattle.commit.specs.Batch.{facts_with};
 ghost use Rattle.hub.specs.Opening.{facts_behind};
 ghost use Rattle.hub.specs.Replies.{RefusesQuestion};
-ghost use Rattle.hub.specs.Running.{IsAhead, IsFoundIn, RanIn, StopsRun, WaitsIn, kept_of, said_by};
+ghost use Rattle.hub.specs.Running.{IsAhead, IsFoundIn, RanIn, StopsRun, WaitsIn, kept_of, said_by, StopsRunIn};
 
 use crate::{Hub, WorkPass};
 use commit::{Batch, CoreError, Outcome};
@@ -59,7 +58,7 @@ impl<J: Naming, D: Disk> Hub<J, D> {
         requires { InstanceIsOf J.opening.graph task.now }
         ensures pass { IsAhead pass.old pass.new }
         ensures came { IfOk result (RanIn J.opening.graph (facts_behind J.opening pass.new.seen) (kept_of kept.entry) task.now) }
-        ensures refused { IfErr result (StopsRun J.opening.graph (facts_with (facts_behind J.opening pass.new.seen) (kept_of kept.entry)) task.now) }
+        ensures refused { IfErr result (StopsRunIn J.opening pass.new kept.entry task.now) }
     {
         let instance = task.inst();
         let checked = self.graph().body(instance.collection).unwrap();
@@ -111,7 +110,7 @@ impl<J: Naming, D: Disk> Hub<J, D> {
         requires read { AreItems (facts_behind J.opening pass.old.seen) (reads_with run.reads run.awaits answer) }
         ensures pass { IsAhead pass.old pass.new }
         ensures came { IfOk result (RanIn J.opening.graph (facts_behind J.opening pass.new.seen) (kept_of kept.entry) run.entry.instance) }
-        ensures refused { IfErr result (StopsRun J.opening.graph (facts_with (facts_behind J.opening pass.new.seen) (kept_of kept.entry)) run.entry.instance) }
+        ensures refused { IfErr result (StopsRunIn J.opening pass.new kept.entry run.entry.instance) }
     {
         ends_within_limits();
         facts_are_told_apart();

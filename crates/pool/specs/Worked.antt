@@ -1,7 +1,7 @@
 -- What workers make of a core, and what a worker knows of a refusal that it met.
 use Rattle.disk.specs.declared.storage.Disk.{Ghosts}
-use Rattle.std.specs.Prelude.{◌≡◌, ◌⊎◌, Bool, true, false, not, is_some, List, [], ◌∷◌, Option, None, Some, IfSome, ◌<◌, length, Result, Ok, Err}
-use Rattle.std.specs.Global.{Box}
+use Rattle.std.specs.Prelude.{◌≡◌, ◌⊎◌, Bool, true, false, not, is_some, List, [], ◌∷◌, Option, None, Some, IfSome, ◌<◌, length, Result, Ok, Err, ◌+◌, ◌≤◌, vec_capacity, vec_len}
+use Rattle.std.specs.Global.{Box, Vec}
 use Rattle.std.specs.List.{AllByRecursion}
 use mathlib.Core.List.{IsPrefix}
 use Rattle.machine.specs.declared.group.Ended.{Ended}
@@ -31,6 +31,7 @@ use Rattle.pool.specs.declared.worker.TheConstants.{MOST_KEPT}
 use Rattle.pool.specs.declared.worker.Turned.{Turned}
 use Rattle.pool.specs.declared.worker.Turned.TheVariants as turned
 use Rattle.pool.specs.declared.worker.Met.TheVariants as met
+use Rattle.pool.specs.declared.team.Causes.{Causes}
 
 -- what a worker meets by an error
 abbrev pub met_by : CoreError → Met
@@ -124,3 +125,11 @@ pub record WorksOn {D : Type 0} (storage : Ghosts D) (old new : Core D) (full : 
   pub commits : List Commit
   pub runs : Runs storage old new commits
   pub met : full ≡ true → MetFull (graph old) (facts old) old.vault.journal.end commits
+
+-- there is room for a handle of each worker, for all passes, and for one more
+abbrev pub HasRoomForAll : {W H P : Type 0} → Vec W → Vec H → Vec P → Type 0
+HasRoomForAll workers handles passes = (vec_len workers + vec_len handles ≤ vec_capacity handles) × (vec_len workers + vec_len handles + vec_len passes + 1 ≤ vec_capacity passes)
+
+-- what is said of the workers is so: a stop was asked only if the probe may, and one met `Full` only if a pass saw such a prefix
+abbrev pub IsSo : Bool → Opening → Causes → List Known → Type 0
+IsSo may_stop opening causes passes = (causes.asked ≡ true → may_stop ≡ true) × (causes.full ≡ true → OneSawFull opening passes)

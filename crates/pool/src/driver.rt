@@ -1,9 +1,9 @@
 //! Who runs the steps of a store.
-ghost use Rattle.std.specs.Prelude.{◌≡◌, false, true, Ok, IsTrue};
+ghost use Rattle.std.specs.Prelude.{◌≡◌, false, true, Ok};
 ghost use Rattle.commit.specs.declared.verdict.Verdict.TheVariants.{Halted};
 ghost use Rattle.commit.specs.Core.{is_halted};
-ghost use Rattle.commit.specs.Runs.{NoneRuns, RunsWithin};
-ghost use Rattle.pool.specs.Driver.{may_be_asked, may_spawn};
+ghost use Rattle.commit.specs.Runs.{NoneRuns};
+ghost use Rattle.pool.specs.Driver.{RunsBy};
 
 use crate::{Crew, Probe};
 use commit::{Core, First, RunError, Verdict, run_with};
@@ -34,7 +34,7 @@ impl<'a, R: Threads + Wait + Sync, P: Probe> Driver<'a, R, P> {
         requires { NoneRuns core }
         ensures idle { NoneRuns result.0 }
         ensures halted { is_halted core ≡ true → (result.0 ≡ core) × (result.1 ≡ Ok Halted) }
-        ensures runs { is_halted core ≡ false → RunsWithin D.Disk (may_be_asked P.may_stop self.now) (may_spawn self.now) core result.0 limit result.1 }
+        ensures runs { is_halted core ≡ false → RunsBy D.Disk P.may_stop self.now core result.0 limit result.1 }
     {
         match self {
             Driver::Alone => run_with(alloc, core, &mut First, limit),

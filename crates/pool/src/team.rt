@@ -1,10 +1,10 @@
 //! A hub for workers, from its opening to its close.
-ghost use Rattle.std.specs.Prelude.{◌≡◌, ◌↔◌, ◌⊎◌, ◌+◌, ◌≤◌, Some, true, false, IfOk, IfErr, IsTrue, vec_capacity, vec_len};
+ghost use Rattle.std.specs.Prelude.{◌≡◌, ◌↔◌, ◌⊎◌, ◌+◌, ◌≤◌, Some, true, false, IfOk, vec_capacity, vec_len};
 ghost use Rattle.commit.specs.Core.{is_halted};
 ghost use Rattle.commit.specs.Runs.{NoneRuns};
 ghost use Rattle.hub.specs.Whole.{IsNamedFor};
 ghost use Rattle.pool.specs.declared.worker.Met.TheVariants.{Asked as MetAsked, Full as MetFull, NoMemory};
-ghost use Rattle.pool.specs.Worked.{OneSawFull, WorksOn};
+ghost use Rattle.pool.specs.Worked.{OneSawFull, WorksOn, HasRoomForAll, IsSo};
 
 use crate::Probe;
 use crate::shelf::Shelf;
@@ -178,7 +178,7 @@ fn in_threads<
     handles: Vec<PromisedHandle<Ended<J>, AsProbed<P>>>,
     passes: Vec<WorkPass<J>>,
 ) -> Back<J>
-    requires room { (vec_len crew.workers + vec_len handles ≤ vec_capacity handles) × (vec_len crew.workers + vec_len handles + vec_len passes + 1 ≤ vec_capacity passes) }
+    requires room { HasRoomForAll crew.workers handles passes }
     ensures asked { result.causes.asked ≡ true → P.may_stop ≡ true }
     ensures full { result.causes.full ≡ true → OneSawFull J.opening result.passes.items }
 {
@@ -186,8 +186,8 @@ fn in_threads<
         scope_env(),
         rt,
         move |scope| -> Back<J>
-            requires { (vec_len crew.workers + vec_len handles ≤ vec_capacity handles) × (vec_len crew.workers + vec_len handles + vec_len passes + 1 ≤ vec_capacity passes) }
-            ensures { (result.causes.asked ≡ true → P.may_stop ≡ true) × (result.causes.full ≡ true → OneSawFull J.opening result.passes.items) }
+            requires { HasRoomForAll crew.workers handles passes }
+            ensures { IsSo P.may_stop J.opening result.causes result.passes.items }
         {
             let started = start(scope, rt, alloc, hub, probe, boss, crew, handles, passes);
             join_all(rt, started)
@@ -215,7 +215,7 @@ fn start<
     mut handles: Vec<PromisedHandle<Ended<J>, AsProbed<P>>>,
     mut passes: Vec<WorkPass<J>>,
 ) -> Started<J, P>
-    requires room { (vec_len crew.workers + vec_len handles ≤ vec_capacity handles) × (vec_len crew.workers + vec_len handles + vec_len passes + 1 ≤ vec_capacity passes) }
+    requires room { HasRoomForAll crew.workers handles passes }
     ensures room { vec_len result.handles + vec_len result.passes ≤ vec_capacity result.passes }
 {
     hubs_cross::<J, D>();

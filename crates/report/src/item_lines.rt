@@ -1,11 +1,11 @@
 //! The lines of items.
-ghost use Rattle.std.specs.Prelude.{map, OnOk};
+ghost use Rattle.std.specs.Prelude.{OnOk};
 ghost use Rattle.std.specs.Io.KnownBytes.{Appends};
-ghost use Rattle.commit.specs.Core.{facts, graph};
-ghost use Rattle.report.specs.Formats.{spelled};
+ghost use Rattle.commit.specs.Core.{graph};
+ghost use Rattle.report.specs.Formats.{spelled, AppendsCollections};
 ghost use Rattle.report.specs.Named.{item_text};
 ghost use Rattle.report.specs.ObjectLines.{item_object};
-ghost use Rattle.report.specs.ReportText.{AppendsItemsOf, item_lines, line};
+ghost use Rattle.report.specs.ReportText.{item_lines, line};
 ghost use Rattle.report.specs.Sinks.{TellsFailure};
 ghost use Rattle.report.specs.TableText.{row_text};
 
@@ -26,7 +26,7 @@ pub(crate) fn write_collections<D: Disk, S: Sink>(
     collections: &[(&str, ItemCollection)],
     out: &mut S,
 ) -> Result<(), SinkFailed>
-    ensures written { OnOk result (AppendsItemsOf (facts core.now) (map (λ one. one.1) collections.now) (spelled spelling (graph core.now)) (S.contents out.old) (S.contents out.new)) }
+    ensures written { OnOk result (AppendsCollections core.now spelling collections.now (S.contents out.old) (S.contents out.new)) }
     ensures fails { TellsFailure S.target S.has_failed out.old out.new result }
 {
     for one in collections {

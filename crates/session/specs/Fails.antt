@@ -1,6 +1,6 @@
 -- What a session comes to: what was read, what came of it, and why it did not come to its end.
 use Rattle.disk.specs.declared.storage.Disk.{Ghosts}
-use Rattle.std.specs.Prelude.{◌≡◌, ◌⊎◌, ◌<◌, ⊤, ℕ, Bool, List, [], ◌++◌, length, Option, Some, None, Result, Err, IfOk, IfErr}
+use Rattle.std.specs.Prelude.{◌≡◌, ◌⊎◌, ◌<◌, ⊤, ℕ, Bool, List, [], ◌++◌, length, Option, Some, None, Result, Err, IfOk, IfErr, false}
 use Rattle.std.specs.Io.KnownBytes.{Appends}
 use Rattle.terms.specs.declared.event.Event.{Event}
 use Rattle.terms.specs.Sets.{Facts}
@@ -14,9 +14,10 @@ use Rattle.session.specs.declared.ending.Ending.{Ending}
 use Rattle.session.specs.declared.error.SessionError.{SessionError}
 use Rattle.session.specs.declared.error.SessionError.TheVariants.{Read, Write, Script, NoMemory}
 use Rattle.session.specs.declared.reply.Reply.{Reply}
-use Rattle.session.specs.Answers.{Drive}
+use Rattle.session.specs.Answers.{Drive, drive_by, drive_of}
 use Rattle.session.specs.Session.{AreReplies, IsSession, ending_of, replies_text}
 use Rattle.session.specs.Went.{GoesOnByAll}
+use Rattle.pool.specs.declared.driver.Driver.{Driver}
 
 -- ---- what was read
 
@@ -131,3 +132,10 @@ module _ {D : Type 0} (storage : Ghosts D) {S : Type 0} (contents : S → Option
 
   abbrev pub AnswersInput : (drive : Bool → Drive) → (input : Option (List ℕ)) → (here there : S) → (old new : Core D) → Result Ending SessionError → Type 0
   AnswersInput drive input here there old new result = Answers storage (drive (is_halted old)) input (contents here) (contents there) old new result
+
+  -- the same of a driver and a limit, and of the core alone
+  abbrev pub AnswersWith : {R P : Type 0} → ℕ → Bool → Driver R P → (input : Option (List ℕ)) → (here there : S) → (old new : Core D) → Result Ending SessionError → Type 0
+  AnswersWith limit may_stop driver = AnswersInput (drive_by limit may_stop driver)
+
+  abbrev pub AnswersAlone : ℕ → (input : Option (List ℕ)) → (here there : S) → (old new : Core D) → Result Ending SessionError → Type 0
+  AnswersAlone limit = AnswersInput (drive_of limit false false)

@@ -1,9 +1,8 @@
 //! A script, from its bytes to its replies.
-ghost use Rattle.std.specs.Prelude.{IfErr, IfOk, false};
+ghost use Rattle.std.specs.Prelude.{IfErr, IfOk};
 ghost use Rattle.script.specs.Script.{IsScript};
 ghost use Rattle.commit.specs.Runs.{NoneRuns};
-ghost use Rattle.session.specs.Answers.{drive_by, drive_of};
-ghost use Rattle.session.specs.Fails.{AnswersInput, FailsToRead, IsRefusedAs, ReadsScript};
+ghost use Rattle.session.specs.Fails.{AnswersInput, FailsToRead, IsRefusedAs, ReadsScript, AnswersAlone, AnswersWith};
 ghost use Rattle.session.specs.Streams.{TellsSink, TellsSource};
 
 use crate::commands::{run_script, run_script_alone};
@@ -39,7 +38,7 @@ pub fn session<D: Disk + Send, S: Source, O: Sink, H: Threads + Wait + Sync, P: 
 ) -> (Core<D>, Result<Ending, SessionError>)
     requires idle { NoneRuns core }
     ensures idle { NoneRuns result.0 }
-    ensures answers { AnswersInput D.Disk O.contents (drive_by limit P.may_stop driver.now) (S.remaining input.old) out.old out.new core result.0 result.1 }
+    ensures answers { AnswersWith D.Disk O.contents limit P.may_stop driver.now (S.remaining input.old) out.old out.new core result.0 result.1 }
     ensures source { TellsSource S.has_failed input.old input.new result.1 }
     ensures sink { TellsSink O.target O.has_failed out.old out.new result.1 }
 {
@@ -62,7 +61,7 @@ pub fn session_alone<D: Disk, S: Source, O: Sink>(
 ) -> (Core<D>, Result<Ending, SessionError>)
     requires idle { NoneRuns core }
     ensures idle { NoneRuns result.0 }
-    ensures answers { AnswersInput D.Disk O.contents (drive_of limit false false) (S.remaining input.old) out.old out.new core result.0 result.1 }
+    ensures answers { AnswersAlone D.Disk O.contents limit (S.remaining input.old) out.old out.new core result.0 result.1 }
     ensures source { TellsSource S.has_failed input.old input.new result.1 }
     ensures sink { TellsSink O.target O.has_failed out.old out.new result.1 }
 {

@@ -1,5 +1,5 @@
 -- An instance while its code runs, seen as the outcome that is still to come.
-use Rattle.std.specs.Prelude.{◌≡◌, ℕ, ◌+◌, ◌-◌, ◌*◌, ◌<◌, ◌≤◌, ℤ, List, [], ◌∷◌, length, reverse, slice_get, slice_set, Some}
+use Rattle.std.specs.Prelude.{◌≡◌, ℕ, ◌+◌, ◌-◌, ◌*◌, ◌<◌, ◌≤◌, ℤ, List, [], ◌∷◌, length, reverse, slice_get, slice_set, Some, IfOk, Result}
 use Rattle.steptree.specs.declared.body.TheConstants.{BUDGET}
 use Rattle.terms.specs.declared.put.Put.{Put}
 use Rattle.steptree.specs.declared.code.Instruction.{Instruction}
@@ -47,6 +47,10 @@ LeadsFrom from Ended new progress = (reads : List Read) → from reads ≡ ends 
 -- the step carries out an instruction that was counted
 abbrev pub CarriesOut : Instruction → Machine → Progress → Machine → Progress → Step → Type 0
 CarriesOut one old before new after step = LeadsFrom (outcome_after one old before) step new after
+
+-- it carries it out, unless memory was refused
+abbrev pub Carries : {E : Type 0} → Instruction → Machine → Progress → Machine → Progress → Result Step E → Type 0
+Carries one old before new after result = IfOk result (CarriesOut one old before new after)
 
 -- the loop that was opened last; and the loops with this one in its place
 abbrev pub IsInnermost : List Loop → Loop → Type 0

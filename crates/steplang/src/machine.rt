@@ -1,14 +1,13 @@
-ghost use Rattle.std.specs.Prelude.{◌≡◌, ◌≢◌, ◌<ℤ◌, slice_get, slice_set, Ok, List, suc, nat_lt, if◌then◌else◌, IfOk, MatchOption, None, [], pos};
+ghost use Rattle.std.specs.Prelude.{◌≡◌, ◌≢◌, ◌<ℤ◌, slice_get, slice_set, Ok, suc, nat_lt, if◌then◌else◌, IfOk, MatchOption, None, [], pos};
 ghost use Rattle.std.specs.Ordering.{int_eq};
 ghost use Rattle.steptree.specs.declared.body.TheConstants.{BUDGET};
 ghost use Rattle.steptree.specs.declared.code.Instruction.TheVariants as instruction;
-ghost use Rattle.steptree.specs.Run.{Read};
 ghost use Rattle.steptree.specs.Bodies.{outcome_of};
 ghost use Rattle.steptree.specs.Compiled.{Stands};
 ghost use Rattle.steptree.specs.Executed.{advanced};
 ghost use Rattle.steplang.specs.Stages.{IsStarted};
 ghost use Rattle.steplang.specs.declared.machine.Step.TheVariants.{On};
-ghost use Rattle.steplang.specs.Machine.{outcome_from, outcome_of_put, GetsValue, LeadsFrom, CarriesOut, IsInnermost, with_innermost, Falls, OpensOne, IsRare};
+ghost use Rattle.steplang.specs.Machine.{outcome_from, outcome_of_put, GetsValue, LeadsFrom, CarriesOut, IsInnermost, with_innermost, Falls, OpensOne, IsRare, Carries};
 
 use crate::value::{Variables, evaluate, evaluate_expression, evaluate_key, variables_of};
 use std::alloc::{AllocError, Global};
@@ -212,7 +211,7 @@ impl<'a> Machine<'a> {
         begin: usize,
         after: usize,
     ) -> Result<Step, AllocError>
-        ensures leads { IfOk result (CarriesOut (instruction.For variable from.now to.now turn begin after) self.old progress.old self.new progress.new) }
+        ensures leads { Carries (instruction.For variable from.now to.now turn begin after) self.old progress.old self.new progress.new result }
         ensures opens { IfOk result (λ step. OpensOne self.old progress.old step self.new progress.new) }
         ensures same { self.new.code ≡ self.old.code }
     {
@@ -291,7 +290,7 @@ impl<'a> Machine<'a> {
         value: &Expression,
         next: usize,
     ) -> Result<Step, AllocError>
-        ensures leads { IfOk result (CarriesOut (instruction.PutItem collection components.now value.now next) self.old progress.old self.new progress.new) }
+        ensures leads { Carries (instruction.PutItem collection components.now value.now next) self.old progress.old self.new progress.new result }
         ensures opens { IfOk result (λ step. OpensOne self.old progress.old step self.new progress.new) }
         ensures same { self.new.code ≡ self.old.code }
     {
@@ -314,7 +313,7 @@ impl<'a> Machine<'a> {
         components: &Components,
         next: usize,
     ) -> Result<Step, AllocError>
-        ensures leads { IfOk result (CarriesOut (instruction.PutTag collection components.now next) self.old progress.old self.new progress.new) }
+        ensures leads { Carries (instruction.PutTag collection components.now next) self.old progress.old self.new progress.new result }
         ensures opens { IfOk result (λ step. OpensOne self.old progress.old step self.new progress.new) }
         ensures same { self.new.code ≡ self.old.code }
     {

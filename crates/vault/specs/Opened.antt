@@ -5,7 +5,7 @@ use Rattle.disk.specs.declared.side.Side.TheVariants.{A, B}
 use Rattle.disk.specs.File.{File}
 use Rattle.disk.specs.declared.storage.Disk.{Ghosts}
 use Rattle.disk.specs.Time.{Contents, MayLeaveNow}
-use Rattle.disk.specs.Storage.{Leaves}
+use Rattle.disk.specs.Storage.{Leaves, Errs}
 use Rattle.terms.specs.Sets.{Facts}
 use Rattle.graph.specs.Graph.{Graph}
 use Rattle.graph.specs.Canonical.{canonical}
@@ -53,6 +53,18 @@ IsCutShort bytes = Tells Short bytes
 -- the file of this side is cut short, and the error is damage of it, at its length
 abbrev pub SaysCutShort : Side → List ℕ → VaultError → Type 0
 SaysCutShort side bytes error = IsCutShort bytes × (error ≡ Damaged side (length bytes))
+
+-- the file is cut short and the error says so, or a call of the disk returned an error
+abbrev pub ErredOrCutShort : Type 0 → Side → List ℕ → VaultError → Type 0
+ErredOrCutShort erred side bytes error = erred ⊎ SaysCutShort side bytes error
+
+-- the error is damage of this side
+abbrev pub IsDamageOf : Side → VaultError → Type 0
+IsDamageOf side error = (place : ℕ) × (error ≡ Damaged side place)
+
+-- what is so if a side has a generation
+abbrev pub OfGeneration : List ℕ → Type 0 → Type 0
+OfGeneration bytes P = (generation : ℕ) → HasGeneration bytes generation → P
 
 -- both sides are open, with one generation
 abbrev pub AreOfOneGeneration : Contents → Type 0
@@ -144,3 +156,7 @@ pub record TellsWhy {T : Type 0} (contents : Contents) (erred : Type 0) (result 
 -- an error that opening may return
 abbrev pub IsOfOpening : VaultError → Type 0
 IsOfOpening error = (error ≢ Full) × (error ≢ Halted) × (error ≢ Exists)
+
+-- the same, of what a call of the disk left
+abbrev pub TellsWhyOn : {D T : Type 0} → Ghosts D → D → D → Result T VaultError → Type 0
+TellsWhyOn storage old new result = TellsWhy (contents_of (storage.files old)) (Errs storage old new) result

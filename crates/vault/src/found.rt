@@ -1,9 +1,9 @@
-ghost use Rattle.std.specs.Prelude.{◌≡◌, ℕ, IfOk, IfErr, IsErrOf};
+ghost use Rattle.std.specs.Prelude.{IfOk, IfErr, IsErrOf};
 ghost use Rattle.disk.specs.declared.side.Side.{Side};
 ghost use Rattle.sides.specs.Reading.{IsRead};
-ghost use Rattle.sides.specs.Side.{HasGeneration, IsNoSide};
+ghost use Rattle.sides.specs.Side.{IsNoSide};
 ghost use Rattle.vault.specs.Store.{SaysNothing};
-ghost use Rattle.vault.specs.Opened.{IsFoundIn, IsOfOpening, IsSoundFound};
+ghost use Rattle.vault.specs.Opened.{IsFoundIn, IsOfOpening, IsSoundFound, IsDamageOf, OfGeneration};
 ghost use Rattle.vault.specs.declared.error.VaultError.TheVariants.{Device, NotAStore, Damaged};
 
 use crate::VaultError;
@@ -32,8 +32,8 @@ pub(crate) fn found_in(alloc: Global, side: Side, bytes: Vec<u8>) -> Result<Foun
     ensures found { IfOk result (IsFoundIn side bytes.items) }
     ensures kept { IfOk result (λ found. IsFoundIn found.journal.side found.bytes.items found) }
     ensures sound { IfOk result IsSoundFound }
-    ensures nothing { (generation : ℕ) → HasGeneration bytes.items generation → IfErr result (λ error. SaysNothing error → IsNoSide bytes.items) }
-    ensures cause { (generation : ℕ) → HasGeneration bytes.items generation → IfErr result (λ error. SaysNothing error → (place : ℕ) × (error ≡ Damaged side place)) }
+    ensures nothing { OfGeneration bytes.items (IfErr result (λ error. SaysNothing error → IsNoSide bytes.items)) }
+    ensures cause { OfGeneration bytes.items (IfErr result (λ error. SaysNothing error → IsDamageOf side error)) }
     ensures others { IfErr result IsOfOpening }
     ensures device { IsErrOf result Device → ⊥ }
 {

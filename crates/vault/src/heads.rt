@@ -6,7 +6,7 @@ ghost use Rattle.disk.specs.Time.{Contents};
 ghost use Rattle.sides.specs.Reading.{Tells};
 ghost use Rattle.sides.specs.Side.{HasGeneration};
 ghost use Rattle.vault.specs.Store.{SaysNothing};
-ghost use Rattle.vault.specs.Opened.{OnlyReads, IsGenerationOf, IsAhead, AreOfOneGeneration, HeadsFault, StandsForNothing, NoneIsOpen, IsOfOpening, contents_of, SaysCutShort, MeansNothing, ReturnsFault, OfGenerations};
+ghost use Rattle.vault.specs.Opened.{OnlyReads, IsGenerationOf, IsAhead, AreOfOneGeneration, HeadsFault, StandsForNothing, NoneIsOpen, IsOfOpening, contents_of, SaysCutShort, MeansNothing, ReturnsFault, OfGenerations, ErredOrCutShort};
 ghost use Rattle.vault.specs.declared.error.VaultError.TheVariants.{Device, NoMemory, NotAStore, Damaged};
 
 use crate::VaultError;
@@ -37,7 +37,7 @@ fn generation_of<D: Disk>(disk: &mut D, side: Side) -> Result<Option<u64>, Vault
     ensures generation { IsTrue D.is_honest → IfOk result (λ generation. IsGenerationOf generation (D.files disk.old side).content) }
     ensures nothing { IsTrue D.is_honest → IfErr result (MeansNothing (contents_of (D.files disk.old))) }
     ensures told { IsTrue D.is_honest → IfErr result (λ error. SaysNothing error → SaysCutShort side (D.files disk.old side).content error) }
-    ensures short { IsTrue D.is_honest → IfErr result (λ error. Errs D.Disk disk.old disk.new ⊎ SaysCutShort side (D.files disk.old side).content error) }
+    ensures short { IsTrue D.is_honest → IfErr result (ErredOrCutShort (Errs D.Disk disk.old disk.new) side (D.files disk.old side).content) }
     ensures same { IsTrue D.is_honest → (each : Side) → D.files disk.new each ≡ D.files disk.old each }
     ensures only_reads { IsTrue D.is_honest → OnlyReads D.Disk disk.old disk.new }
     ensures others { IfErr result IsOfOpening }

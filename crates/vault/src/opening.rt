@@ -4,7 +4,7 @@ ghost use Rattle.disk.specs.declared.side.Side.{Side};
 ghost use Rattle.disk.specs.File.{at_rest};
 ghost use Rattle.disk.specs.Time.{HasCause};
 ghost use Rattle.vault.specs.Store.{IsReady, disk_of_opening, answer_of};
-ghost use Rattle.vault.specs.Opened.{OnlyReads, IsFound, IsFoundIn, IsSound, TellsWhy, IsOfOpening, contents_of, IsHeld, IsSoundStore};
+ghost use Rattle.vault.specs.Opened.{OnlyReads, IsFound, IsFoundIn, IsSound, TellsWhy, IsOfOpening, contents_of, IsHeld, IsSoundStore, TellsWhyOn};
 ghost use Rattle.vault.specs.declared.error.VaultError.TheVariants.{Device, NoMemory};
 ghost use Rattle.disk.specs.declared.error.DiskError.TheVariants as DiskError;
 
@@ -43,7 +43,7 @@ pub fn open<D: Disk>(alloc: Global, disk: D) -> Result<Recovered<D>, Refused<D>>
     ensures sound { IfOk result IsSoundStore }
 
     // What a refusal says of the files.
-    ensures tells { IsTrue D.is_honest → TellsWhy (contents_of (D.files disk)) (Errs D.Disk disk (disk_of_opening result)) (answer_of result) }
+    ensures tells { IsTrue D.is_honest → TellsWhyOn D.Disk disk (disk_of_opening result) (answer_of result) }
 
     // Reads return what they returned before, and a crash at any moment of the call, or after it, leaves what one might
     // have left before.
