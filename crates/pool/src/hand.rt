@@ -11,7 +11,7 @@ use crate::settling::settled;
 use crate::shelf::Shelf;
 use crate::waiting::Waiting;
 use crate::worker::{FEW, MOST_KEPT};
-use commit::{Batch, CoreError};
+use commit::{Batch, CoreError, Outcome};
 use disk::Disk;
 use hub::{Hub, WorkPass};
 use instances::{Task, Tasks};
@@ -84,12 +84,20 @@ impl<'a> Hand<'a> {
         self.chases = true;
     }
 
-    /// Notes that a body has ended, after this number of statements and puts.
-    pub(crate) fn note_end(&mut self, statements: u32, puts: usize)
+    /// Notes that a body has ended with this outcome, how many statements it has made, and how many of these since it went on, and whether results are kept beside it.
+    pub(crate) fn note_end(
+        &mut self,
+        outcome: &Outcome<'_>,
+        statements: u32,
+        made: u32,
+        keeps: bool,
+    )
         ensures { HasTheSame self.old self.new }
     {
+        let puts = puts_of(outcome);
         self.tried = false;
         self.pace.note_end(statements, puts);
+        self.note(made, puts, keeps);
     }
 
     /// What is kept, if a body may look for items there, `ready` being the number of instances that are ready now.
@@ -366,6 +374,14 @@ impl<'a> Hand<'a> {
         } = self;
         drop(waiting);
         claimed.end();
+    }
+}
+
+// How many puts an outcome has.
+fn puts_of(outcome: &Outcome<'_>) -> usize {
+    match outcome {
+        Outcome::Gave(given) => given.puts().as_slice().len(),
+        Outcome::Fault(_) => 0,
     }
 }
 

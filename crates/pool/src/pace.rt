@@ -64,9 +64,9 @@ pub(crate) struct Pace {
     quiet: u32,
     // Whether it has given back what it had claimed since the last body that ended.
     left: bool,
-    // How many instances it was to let wait when it had last waited for others in vain since the last body that ended, and how many of them are left.
-    lets: u32,
-    lets_left: u32,
+    // After it has waited for others in vain it lets instances wait: how many it let wait the last time since a body ended, and how many of them are left.
+    let_wait: u32,
+    still_to_wait: u32,
     /// Whether it waits for others to commit before it claims again.
     pub(crate) waits: bool,
     /// Whether it sleeps while it does.
@@ -89,8 +89,8 @@ impl Pace {
             takes: false,
             quiet: 0,
             left: false,
-            lets: 0,
-            lets_left: 0,
+            let_wait: 0,
+            still_to_wait: 0,
             waits: false,
             rests: false,
             vain: 0,
@@ -102,8 +102,8 @@ impl Pace {
         self.note_work(beyond_puts(statements, puts));
         self.calm = self.calm.saturating_add(1).min(CALM);
         self.left = false;
-        self.lets = 0;
-        self.lets_left = 0;
+        self.let_wait = 0;
+        self.still_to_wait = 0;
         self.quiet = 0;
     }
 
@@ -161,8 +161,8 @@ impl Pace {
         if self.work >= SHARED_WORK || running <= own {
             return false;
         }
-        if self.lets_left > 0 {
-            self.lets_left -= 1;
+        if self.still_to_wait > 0 {
+            self.still_to_wait -= 1;
             return false;
         }
         self.waits = true;
@@ -175,8 +175,8 @@ impl Pace {
     pub(crate) fn note_waited(&mut self, committed: bool) {
         self.waits = false;
         if !committed {
-            self.lets = self.lets.saturating_mul(2).max(1);
-            self.lets_left = self.lets;
+            self.let_wait = self.let_wait.saturating_mul(2).max(1);
+            self.still_to_wait = self.let_wait;
         }
     }
 

@@ -9,9 +9,9 @@ ghost use Rattle.pool.specs.Worked.{AreKept, IsHand, IsTurned};
 
 use crate::committing::commit_before;
 use crate::hand::Hand;
-use crate::running::{keep, park_beside, puts_of};
+use crate::running::{keep, park_beside};
 use crate::settling::{park, settled, stopped_by};
-use crate::worker::{Turned, ends, goes_on_unless};
+use crate::worker::{Turned, gives_up, goes_on_unless};
 use commit::Batch;
 use disk::Disk;
 use hub::{Hub, Ran, WorkPass};
@@ -51,10 +51,8 @@ pub(crate) fn go_on<'a, J: Naming, D: Disk, R: Wait>(
     let before = run.statements();
     match hub.resume(rt, &mut hand.room, pass, run) {
         Ok(Ran::Ended(outcome, statements)) => {
-            let puts = puts_of(&outcome);
-            hand.note_end(statements, puts);
             let made = statements.saturating_sub(before);
-            hand.note(made, puts, kept.is_some());
+            hand.note_end(&outcome, statements, made, kept.is_some());
             keep(rt, alloc, hub, pass, hand, task, outcome, kept)
         }
         Ok(Ran::Waits(run, _)) => {
@@ -66,10 +64,7 @@ pub(crate) fn go_on<'a, J: Naming, D: Disk, R: Wait>(
             hand.note_wait();
             park_beside(rt, hub, pass, hand, task, run, kept)
         }
-        Err(error) => {
-            let _ = settled(rt, hub.release(rt, pass, task));
-            ends(rt, hub, pass, stopped_by(error), kept)
-        }
+        Err(error) => { gives_up(rt, hub, pass, hand, task, stopped_by(error), kept) }
     }
 }
 
@@ -141,15 +136,10 @@ fn go_on_alone<'a, J: Naming, D: Disk, R: Wait>(
 {
     match hub.resume(rt, &mut hand.room, pass, run) {
         Ok(Ran::Ended(outcome, statements)) => {
-            let puts = puts_of(&outcome);
-            hand.note_end(statements, puts);
-            hand.note(statements, puts, false);
+            hand.note_end(&outcome, statements, statements, false);
             keep(rt, alloc, hub, pass, hand, task, outcome, None)
         }
         Ok(Ran::Waits(run, _)) => goes_on_unless(park(rt, hub, pass, hand, task, run)),
-        Err(error) => {
-            let _ = settled(rt, hub.release(rt, pass, task));
-            Turned::Ends(Some(stopped_by(error)))
-        }
+        Err(error) => { gives_up(rt, hub, pass, hand, task, stopped_by(error), None) }
     }
 }

@@ -14,7 +14,7 @@ use crate::committing::{commit, commit_before, commit_kept, exchange};
 use crate::hand::{Hand, count_of};
 use crate::resuming::{go_on, wait_for_own};
 use crate::settling::{finish, park, settled, stopped_by};
-use crate::worker::{Met, Turned, ends, goes_on_unless};
+use crate::worker::{Met, Turned, ends, gives_up, goes_on_unless};
 use crate::{Answer, Probe};
 use commit::{Batch, Outcome};
 use disk::Disk;
@@ -51,8 +51,7 @@ pub(crate) fn run_task<'a, J: Naming, D: Disk, P: Probe, R: Wait>(
     if probe.enter(task.inst()) == Answer::Stop {
         // Before the task is given back, so that no worker runs it meanwhile.
         hub.ask_stop(pass);
-        let _ = settled(rt, hub.release(rt, pass, task));
-        return ends(rt, hub, pass, Met::Asked, kept);
+        return gives_up(rt, hub, pass, hand, task, Met::Asked, kept);
     }
     match hand.waiting.take(pass, &task.inst()) {
         Some(run) => go_on(rt, alloc, hub, pass, hand, task, run, kept),
@@ -83,9 +82,7 @@ fn begin<'a, J: Naming, D: Disk, R: Wait>(
     let beside = hand.ahead(&kept, hub.ready());
     match hub.run(rt, &mut hand.room, pass, &task, beside) {
         Ok(Ran::Ended(outcome, statements)) => {
-            let puts = puts_of(&outcome);
-            hand.note_end(statements, puts);
-            hand.note(statements, puts, kept.is_some());
+            hand.note_end(&outcome, statements, statements, kept.is_some());
             keep(rt, alloc, hub, pass, hand, task, outcome, kept)
         }
         Ok(Ran::Waits(run, ahead)) => {
@@ -103,10 +100,7 @@ fn begin<'a, J: Naming, D: Disk, R: Wait>(
             hand.note_wait();
             park_beside(rt, hub, pass, hand, task, run, kept)
         }
-        Err(error) => {
-            let _ = settled(rt, hub.release(rt, pass, task));
-            ends(rt, hub, pass, stopped_by(error), kept)
-        }
+        Err(error) => { gives_up(rt, hub, pass, hand, task, stopped_by(error), kept) }
     }
 }
 
@@ -161,14 +155,6 @@ pub(crate) fn park_beside<'a, J: Naming, D: Disk, R: Wait>(
             Turned::GoesOn(kept)
         }
         Some(met) => ends(rt, hub, pass, met, kept),
-    }
-}
-
-/// How many puts an outcome has.
-pub(crate) fn puts_of(outcome: &Outcome<'_>) -> usize {
-    match outcome {
-        Outcome::Gave(given) => given.puts().as_slice().len(),
-        Outcome::Fault(_) => 0,
     }
 }
 

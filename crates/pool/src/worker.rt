@@ -10,11 +10,12 @@ use crate::committing::{commit_kept, exchange};
 use crate::hand::Hand;
 use crate::pace::Pace;
 use crate::running::run_task;
-use crate::settling::stopped_by;
+use crate::settling::{settled, stopped_by};
 use crate::shelf::Shelf;
 use commit::Batch;
 use disk::Disk;
 use hub::{Hub, WorkPass};
+use instances::Task;
 use machine::results_are_meant;
 use passes::Naming;
 use std::alloc::Global;
@@ -255,6 +256,31 @@ pub(crate) fn ends<'a, J: Naming, D: Disk, R: Wait>(
         Some(last) => Turned::Ends(Some(last)),
         None => Turned::Ends(Some(met)),
     }
+}
+
+/// The worker gives an instance back and ends, since it met this.
+pub(crate) fn gives_up<'a, J: Naming, D: Disk, R: Wait>(
+    rt: &R,
+    hub: &'a Hub<J, D>,
+    pass: &mut WorkPass<J>,
+    hand: &mut Hand<'a>,
+    task: Task,
+    met: Met,
+    kept: Option<Batch<'a>>,
+) -> Turned<'a>
+    requires not_full { met ≡ MetFull → ⊥ }
+    requires hand { IsHand J.opening pass.old.seen hand.old }
+    requires kept { AreKept J.opening pass.old kept }
+    ensures hand { IsHand J.opening pass.new.seen hand.new }
+    ensures turned { IsTurned J.opening pass.new result }
+    ensures asked { result ≡ Ends (Some MetAsked) → met ≡ MetAsked }
+{
+    facts_are_told_apart();
+    facts_go_on();
+    results_are_meant();
+    let _ = hand;
+    let _ = settled(rt, hub.release(rt, pass, task));
+    ends(rt, hub, pass, met, kept)
 }
 
 /// The worker goes on and keeps nothing, unless it met something.
