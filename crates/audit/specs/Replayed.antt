@@ -13,7 +13,6 @@ use Rattle.machine.specs.Meaning.{BodyGives}
 use Rattle.machine.specs.State.{IsReached}
 use Rattle.machine.specs.Machine.{Machine, environment, facts}
 use Rattle.machine.specs.Marked.{Marks, MarksMore, marked}
-use Rattle.commit.specs.Core as core
 use Rattle.commit.specs.Came.{IsOutcomeIn, IsParkedIn}
 use Rattle.commit.specs.declared.bodies.Came.{Came}
 use Rattle.commit.specs.declared.bodies.Came.TheVariants.{Ended, Waits}
@@ -92,7 +91,3 @@ TriedAs store old new instance AsBefore = StaysAs store old new instance
 abbrev pub CameTo : Graph → Marks → Inst → Came → Type 0
 CameTo g m instance (Ended outcome) = IsOutcomeIn g (marked m) instance outcome
 CameTo g m instance (Waits parked) = IsParkedIn g (marked m) instance parked × IsAbsent (marked m) parked.address
-
--- legal events lead to what a store holds
-abbrev pub IsGenuine : {D : Type 0} → core.Core D → Type 0
-IsGenuine c = IsReached (core.graph c) (core.environment c) (core.facts c)

@@ -1,9 +1,10 @@
 ghost use Rattle.std.specs.Prelude.{◌≡◌, ◌↔◌, false, true, Err, IfErr, OnOk};
+ghost use Rattle.commit.specs.Status.{IsGenuine};
 ghost use Rattle.machine.specs.Machine.{environment, facts};
 ghost use Rattle.machine.specs.State.{IsReached};
 ghost use Rattle.commit.specs.Core as core_of;
 ghost use Rattle.audit.specs.declared.certificate.VerifyError.TheVariants.{Halted, NoMemory};
-ghost use Rattle.audit.specs.Replayed.{AreStuck, IsReplayed, IsGenuine};
+ghost use Rattle.audit.specs.Replayed.{AreStuck, IsReplayed};
 
 use crate::begin::begin;
 use crate::fault::is_at_fault;

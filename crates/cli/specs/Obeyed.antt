@@ -45,7 +45,7 @@ use Rattle.cli.specs.Logged.{FailsToLog, IsLogOf}
 use Rattle.cli.specs.declared.words.Command.{Command}
 use Rattle.cli.specs.declared.words.Command.TheVariants as asked
 use Rattle.cli.specs.Outcomes.{failure_of_creation, failure_of_report, failure_of_session, failure_of_turn}
-use Rattle.audit.specs.Replayed.{IsGenuine}
+use Rattle.commit.specs.Status.{IsGenuine}
 use Rattle.pool.specs.declared.driver.Driver.{Driver}
 use Rattle.cli.specs.declared.words.TheConstants.{MOST_LIMIT}
 
@@ -231,7 +231,7 @@ module _ {D : Type 0} (storage : Ghosts D) where
   Obeys drive (asked.Draw text) input before behind old new outcome = (new ≡ old) × Draws input before behind outcome
   Obeys drive (asked.DrawStore directory all) input before behind old new outcome = IsNotOpened before behind old new outcome ⊎ DrawsStore old new outcome
 
--- the same of a driver, and of an output
+-- the same, with this driver, and with what the output has before and after
 abbrev pub ObeysBy : {D W R P : Type 0} → Ghosts D → (contents : W → Option (List ℕ)) → Bool → Driver R P → Command → (input : Option (List ℕ)) → (here there : W) → D → D → Outcome → Type 0
 ObeysBy storage contents may_stop driver command input here there old new outcome =
     Obeys storage (drive_by MOST_LIMIT may_stop driver false) command input (contents here) (contents there) old new outcome

@@ -3,13 +3,12 @@ ghost use Rattle.std.specs.Prelude.{◌≡◌, ◌⊎◌, false, IfOk, IfErr, Ok
 ghost use Rattle.graph.specs.declared.limits.TheConstants.{MOST_TEXT};
 ghost use Rattle.commit.specs.Runs.{NoneRuns};
 ghost use Rattle.session.specs.Answers.{drive_by};
-ghost use Rattle.session.specs.Fails.{AnswersInput, IsAllOrTooLarge, AnswersWith};
-ghost use Rattle.cli.specs.Obeyed.{CreatesOrNot, Draws, DrawsStore, IsDrawn, IsLeft, IsNotOpened, Obeys, Reports, Runs, SaysOrFails, TellsReport, TellsSession, TellsTurn, TurnsOver, ObeysBy};
+ghost use Rattle.session.specs.Fails.{IsAllOrTooLarge, AnswersWith};
+ghost use Rattle.cli.specs.Obeyed.{CreatesOrNot, Draws, DrawsStore, IsDrawn, IsLeft, IsNotOpened, Reports, Runs, SaysOrFails, TellsReport, TellsSession, TellsTurn, TurnsOver, ObeysBy};
 ghost use Rattle.cli.specs.Outcomes.{status_of};
 ghost use Rattle.cli.specs.declared.outcome.Failure.TheVariants as failure;
 ghost use Rattle.cli.specs.declared.outcome.Outcome.{Outcome as Came};
 ghost use Rattle.cli.specs.declared.outcome.Outcome.TheVariants.{Created, Failed};
-ghost use Rattle.cli.specs.declared.words.TheConstants.{MOST_LIMIT};
 
 use crate::hints::{graph_hint, script_hint};
 use crate::logging::log;

@@ -1,8 +1,8 @@
 //! The certificate of a store, and what is wrong in a store that has none.
-ghost use Rattle.std.specs.Prelude.{◌≡◌, ◌⊎◌, false, codes, IfErr, IsTrue, OnOk};
+ghost use Rattle.std.specs.Prelude.{◌≡◌, ◌⊎◌, false, codes, IfErr, OnOk};
 ghost use Rattle.commit.specs.Core.{is_halted};
 ghost use Rattle.audit.specs.declared.certificate.VerifyError.TheVariants.{NoMemory};
-ghost use Rattle.audit.specs.Replayed.{IsGenuine};
+ghost use Rattle.commit.specs.Status.{IsGenuine};
 ghost use Rattle.cli.specs.Obeyed.{IsNotOpened, SaysOrFails, TellsCertificate, Verifies};
 ghost use Rattle.cli.specs.declared.outcome.Outcome.TheVariants.{Verified};
 

@@ -40,11 +40,11 @@ pub record IsDivided (batch : Batch) (count : ℕ) (front behind : Batch) : Type
   pub many_tasks : length front.tasks ≡ count
   pub many_outcomes : length front.outcomes ≡ count
 
--- a list was divided: this many are left in it, and the others taken out
+-- a list was divided: the first of it are left, this many or all if it has no more, and the others were taken out
 abbrev pub IsCut : {X : Type 0} → ℕ → List X → List X → List X → Type 0
 IsCut count all left others = (left ≡ take count all) × (others ≡ drop count all)
 
--- a pair was added behind the others
+-- an instance and its outcome were added behind the others
 abbrev pub AddsPair : Batch → Batch → Inst → Outcome → Type 0
 AddsPair old new task outcome = (new.tasks ≡ old.tasks ++ task ∷ []) × (new.outcomes ≡ old.outcomes ++ outcome ∷ [])
 

@@ -9,7 +9,7 @@ use Rattle.terms.specs.Facts.{Fact}
 use Rattle.graph.specs.Graph.{Graph as TheGraph}
 use Rattle.graph.specs.Reads.{HasCause, Reads}
 use Rattle.vault.specs.Opened.{contents_of}
-use Rattle.vault.specs.Store.{HasGates}
+use Rattle.vault.specs.Store.{HasGates, OneHasBytes}
 use Rattle.vault.specs.declared.error.VaultError.TheVariants.{Device, NoMemory, Exists}
 use Rattle.commit.specs.declared.creation.CreateError.{CreateError}
 use Rattle.commit.specs.declared.creation.CreateError.TheVariants.{Graph, Store}
@@ -50,10 +50,10 @@ answer_of (Err refused) = Err refused.error
 -- might have left before. `Exists` says that one is not empty.
 pub record LeavesOthers {D T : Type 0} (storage : Ghosts D) (old new : D) (result : Result T CreateError) : Type 0 where
   pub were_empty : OnOk result ((side : Side) → (storage.files old side).content ≡ [])
-  pub exists : IsErrOf result (Store Exists) → ((storage.files old A).content ≢ []) ⊎ ((storage.files old B).content ≢ [])
+  pub exists : IsErrOf result (Store Exists) → OneHasBytes (storage.files old)
   pub kept : (some : Side) → (storage.files old some).content ≢ [] → (side : Side) → storage.files new side ≡ storage.files old side
   pub moments : (some : Side) → (storage.files old some).content ≢ [] → Leaves storage old new (MayLeaveNow (storage.files old))
 
--- if memory was refused outside the disk, the disk is as it was
-abbrev pub GrowsFirst : {D : Type 0} → Ghosts D → D → NotCreated D → Type 0
-GrowsFirst storage old refused = refused.error ≡ Store NoMemory → storage.refusals refused.disk ≡ storage.refusals old → refused.disk ≡ old
+-- if the error is that memory was refused, and the disk counted no refusal, the disk is as it was
+abbrev pub KeepsDiskOutside : {D : Type 0} → Ghosts D → D → NotCreated D → Type 0
+KeepsDiskOutside storage old refused = refused.error ≡ Store NoMemory → storage.refusals refused.disk ≡ storage.refusals old → refused.disk ≡ old

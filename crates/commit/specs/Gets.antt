@@ -17,7 +17,7 @@ RefusesOrHalted c why (Store error) = (is_halted c ≡ true) × (error ≡ Halte
 abbrev pub SaysHalted : {D : Type 0} → Core D → CoreError → Type 0
 SaysHalted c error = (is_halted c ≡ true) × (error ≡ Store Halted)
 
--- memory was refused; or, if the core is halted, it says so
+-- of a halted core the error says that it is halted; of another, that memory was refused
 abbrev pub SaysHaltedOrNoMemory : {D : Type 0} → Core D → CoreError → Type 0
 SaysHaltedOrNoMemory c error = (is_halted c ≡ false → error ≡ Store NoMemory) × (is_halted c ≡ true → SaysHalted c error)
 

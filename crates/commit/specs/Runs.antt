@@ -206,6 +206,6 @@ pub record Ends {D : Type 0} (storage : Ghosts D) (old new : Core D) (task : Ins
   pub halts : Halts storage old new result
   pub runs : is_halted old ≡ false → EndRuns storage old new task outcome result
 
--- the verdict of a run of the core alone: of any limit of which the allowance is left
+-- the verdict of a run of the core alone: for each limit of which the allowance is what is left after so many ends
 abbrev pub TellsAlone : {D : Type 0} → Core D → Result Verdict RunError → Type 0
 TellsAlone c result = (limit count : ℕ) → c.allowance + count ≡ limit → TellsVerdict (IsFull c) false false c limit count result

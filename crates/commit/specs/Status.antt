@@ -21,10 +21,14 @@ TellsStatus c Working = HasNoFault (facts c) × (NoneIsActive c.machine → ⊥)
 TellsStatus c (Quiet blocked) = HasNoFault (facts c) × NoneIsActive c.machine × (blocked ≡ min (waiting_count c.machine) (2 ^ 64 - 1))
 TellsStatus c (Stopped instance kind) = facts c (bad instance kind) ≡ true
 
+-- legal events lead to what a core holds
+abbrev pub IsGenuine : {D : Type 0} → Core D → Type 0
+IsGenuine c = IsReached (graph c) (environment c) (facts c)
+
 -- If legal events led here, the meaning on what the environment put has this fault, and no legal events with that environment leave nothing to do.
 abbrev pub IsFaultOfMeaning : {D : Type 0} → Core D → Inst → FaultKind → Type 0
 IsFaultOfMeaning c instance kind =
-    IsReached (graph c) (environment c) (facts c) → Meaning (graph c) (environment c) (bad instance kind) × ((Y : Facts) → IsReached (graph c) (environment c) Y → IsQuiet (graph c) Y → ⊥)
+    IsGenuine c → Meaning (graph c) (environment c) (bad instance kind) × ((Y : Facts) → IsReached (graph c) (environment c) Y → IsQuiet (graph c) Y → ⊥)
 
 -- What that says of the meaning. `Quiet`: nothing is left to do, and if legal events led here, the facts are all of the meaning. `Stopped`: the fault is one of the
 -- meaning.

@@ -41,7 +41,7 @@ impl<'a> Model for Batch<'a> {
 }
 
 impl<'a> Batch<'a> {
-    ghost use Rattle.std.specs.Prelude.{◌≡◌, ◌≤◌, ◌<◌, ◌∷◌, [], IfErr, IfOk, None, OnOk, length};
+    ghost use Rattle.std.specs.Prelude.{◌≡◌, ◌≤◌, ◌<◌, ◌∷◌, [], IfErr, IfOk, OnOk, length};
     ghost use Rattle.commit.specs.Batch.{AddsPair, Batch as Seen, HavePopped, ends_said};
     ghost use Rattle.commit.specs.declared.batch.TheConstants.{MOST_TOGETHER};
 

@@ -41,7 +41,7 @@ impl<D: Disk> Core<D> {
     ghost use Rattle.vault.specs.declared.error.VaultError.TheVariants.{Device, NoMemory};
     ghost use Rattle.commit.specs.declared.creation.CreateError.TheVariants.{Store};
     ghost use Rattle.commit.specs.Core.{graph as graph_of};
-    ghost use Rattle.commit.specs.Created.{GrowsFirst, IsCreated, TellsCreation, LeavesOthers, disk_of, answer_of};
+    ghost use Rattle.commit.specs.Created.{KeepsDiskOutside, IsCreated, TellsCreation, LeavesOthers, disk_of, answer_of};
     ghost use Rattle.commit.specs.Opened.{disk_of as opened_disk};
 
     /// Makes a store of the graph of this text, on two empty files. It holds nothing.
@@ -54,7 +54,7 @@ impl<D: Disk> Core<D> {
         ensures others { IsTrue D.is_honest → LeavesOthers D.Disk disk (disk_of result) (answer_of result) }
         ensures begins { IsTrue D.is_honest → D.files disk A ≡ at_rest [] → Leaves D.Disk disk (disk_of result) BComesFirst }
         ensures causes { ReportsAs D.Disk (Store Device) (Store NoMemory) disk (disk_of result) (answer_of result) }
-        ensures grown_first { IfErr result (GrowsFirst D.Disk disk) }
+        ensures grown_first { IfErr result (KeepsDiskOutside D.Disk disk) }
     {
         canonical_reads();
         reads_textual();

@@ -1,7 +1,7 @@
 //! Several ends of instances, committed as one.
 ghost use Rattle.std.specs.Prelude.{◌≡◌, ◌≤◌, cond, drop, length};
 ghost use Rattle.commit.specs.declared.events.Events.TheVariants.{Several};
-ghost use Rattle.machine.specs.Group.{StopsAt, cut, stopped_as as as_stopped, LeavesWhatEnds};
+ghost use Rattle.machine.specs.Group.{StopsAt, cut, stopped_as as as_stopped, LeavesWhatComes};
 
 use crate::events::Events;
 use crate::{Batch, Core, CoreError};
@@ -16,7 +16,7 @@ impl<D: Disk> Core<D> {
     ghost use Rattle.graph.specs.Fits.{HasNoFault};
     ghost use Rattle.vault.specs.declared.error.VaultError.TheVariants.{NoMemory};
     ghost use Rattle.commit.specs.declared.error.CoreError.TheVariants.{Store};
-    ghost use Rattle.machine.specs.Group.{AreEndsHere, AreRunning, EndsTogether, cut, ended_by, puts_of_all};
+    ghost use Rattle.machine.specs.Group.{AreEndsHere, AreRunning, EndsTogether, ended_by, puts_of_all};
     ghost use Rattle.machine.specs.Machine.{HasRoom, TellsWhether};
     ghost use Rattle.machine.specs.State.{AreLegalFrom};
     ghost use Rattle.commit.specs.Core.{facts, graph, is_halted};
@@ -70,7 +70,7 @@ impl<D: Disk> Core<D> {
     fn make_ready_for_ends(&mut self, ends: &mut Vec<Event>) -> Result<Ended, CoreError>
         requires here { AreEndsHere self.old.machine ends.old.items }
         ensures working { OnOk result (is_halted self.old ≡ false) }
-        ensures together { IfOk result (LeavesWhatEnds (graph self.old) (facts self.old) ends.old.items ends.new.items) }
+        ensures together { IfOk result (LeavesWhatComes (graph self.old) (facts self.old) ends.old.items ends.new.items) }
         ensures room { OnOk result (HasRoom self.new.machine (puts_of_all ends.new.items)) }
         ensures refused { IfErr result (RefusesAllFirst self.old) }
         ensures same { GivesRoom self.old self.new }

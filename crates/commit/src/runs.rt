@@ -35,7 +35,7 @@ pub fn run_with<D: Disk, C: Choose>(
 }
 
 impl<D: Disk> Core<D> {
-    ghost use Rattle.std.specs.Prelude.{◌≡◌, ◌≢◌, ◌<◌, false, true, Some, Ok, IfErr, IfOk, OnOk};
+    ghost use Rattle.std.specs.Prelude.{◌≡◌, ◌≢◌, false, true, Some, Ok, IfErr, IfOk, OnOk};
     ghost use Rattle.instances.specs.declared.state.State.TheVariants.{Running};
     ghost use Rattle.graph.specs.Fits.{HasNoFault};
     ghost use Rattle.terms.specs.declared.name.Inst.{Inst as Instance};

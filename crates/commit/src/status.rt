@@ -24,8 +24,6 @@ impl<D: Disk> Core<D> {
     ghost use Rattle.instances.specs.declared.state.State.TheVariants.{Running};
     ghost use Rattle.machine.specs.Machine.{waiting_count};
     ghost use Rattle.machine.specs.Status.{AreBlocked, AreUnfinished, TellsFault};
-    ghost use Rattle.vault.specs.declared.error.VaultError.TheVariants.{NoMemory};
-    ghost use Rattle.commit.specs.declared.error.CoreError.TheVariants.{Store};
     ghost use Rattle.commit.specs.Core.{graph, is_halted, state_of};
     ghost use Rattle.commit.specs.Gets.{SaysHalted, SaysHaltedOrNoMemory};
     ghost use Rattle.commit.specs.Runs.{NoneRuns};

@@ -40,9 +40,9 @@ files_after a b calls side = file_after (pick a b side) calls side
 abbrev pub OverwritesSide : Side → ℕ → List ℕ → (Side → List ℕ) → (Side → List ℕ) → Type 0
 OverwritesSide side at bytes old new = ChangesSide side (λ held. overwritten held at bytes) old new
 
--- a call that failed to make this change
-abbrev pub failed : Side → Change → Call
-failed side change = record { side = side; change = change; failed = true }
+-- the call that failed to make this change on this side
+abbrev pub failed_call : Side → Change → Call
+failed_call side change = record { side = side; change = change; failed = true }
 
 -- a call that was begun and ended with an error: the device failed and the call is recorded, or the record could not grow
 abbrev pub Kept : DiskError → Call → List Call → List Call → Type 0

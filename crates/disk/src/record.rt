@@ -1,4 +1,4 @@
-ghost use Rattle.std.specs.Prelude.{◌≡◌, ◌≢◌, ◌⊎◌, ◌<◌, ◌-◌, ◌++◌, ◌∷◌, [], true, false, vec_len, vec_capacity, IfOk, IfErr, IsErrOf, Err};
+ghost use Rattle.std.specs.Prelude.{◌≡◌, ◌≢◌, ◌⊎◌, ◌<◌, ◌-◌, ◌++◌, ◌∷◌, [], false, vec_len, vec_capacity, IfOk, IfErr, IsErrOf, Err};
 ghost use Rattle.disk.specs.declared.error.DiskError.TheVariants.{Device, NoMemory};
 ghost use Rattle.disk.specs.Time.{CountsRefusal};
 
@@ -34,7 +34,7 @@ pub(crate) struct Record {
 }
 
 impl Record {
-    ghost use Rattle.disk.specs.Calls.{Kept, failed};
+    ghost use Rattle.disk.specs.Calls.{Kept, failed_call};
 
     /// No calls so far, and no call that is to fail.
     pub(crate) fn new(alloc: Global) -> Self
@@ -74,7 +74,7 @@ impl Record {
         ensures change { IfOk result (λ kept. kept ≡ change) }
         ensures room { IfOk result (λ _. vec_len self.new.calls < vec_capacity self.new.calls) }
         ensures ok { IfOk result (λ _. self.new.calls.items ≡ self.old.calls.items) }
-        ensures err { IfErr result (λ error. Kept error (failed side change) self.old.calls.items self.new.calls.items) }
+        ensures err { IfErr result (λ error. Kept error (failed_call side change) self.old.calls.items self.new.calls.items) }
     {
         let Ok(()) = self.calls.reserve(1) else {
             return self.refuse();

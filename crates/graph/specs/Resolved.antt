@@ -14,6 +14,6 @@ pub record IsResolved (tree : Tree) (resolved : Resolved) : Type 0 where
   pub tags : AreCollected (tags_of tree.declarations.items) resolved.tags
   pub relations : AreRelations (names_in (items_of tree.declarations.items)) (names_in (tags_of tree.declarations.items)) (step_names tree.steps.items) tree.relations.items resolved.relations
 
--- the tree has no fault that can be told without looking into bodies, and its names are resolved so
+-- the tree has no fault of names or relations, and this is what it is resolved to
 abbrev pub Resolves : Tree → Resolved → Type 0
 Resolves tree resolved = (tree_faults tree ≡ []) × IsResolved tree resolved

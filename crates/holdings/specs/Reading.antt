@@ -31,24 +31,27 @@ abbrev pub FindsImage : Graph → List ℕ → Option Holdings → Type 0
 FindsImage g bytes found =
     MatchOption found ((image : Image) → SpellsImage MAX_COMPONENTS bytes image → AreWithin g image → ⊥) (λ h. SpellsImage MAX_COMPONENTS bytes (image_of h) × AreWithin g (image_of h))
 
--- the items of a list, whose collections are among the first so many, are held
+-- a list of items was read whole, up to these bytes; the collection of each is one of the first so many, and all of them are held
 abbrev pub ItemsAreHeld : ℕ → List ℕ → Holdings → Holdings → List ℕ → Type 0
 ItemsAreHeld count bytes old new rest = ListIsHeld (λ it. it.0.collection.0 < count) (with_items old) (list item_cmp (item MAX_COMPONENTS) bytes) new rest
 
+-- memory was refused, or no such list of items stands there
 abbrev pub NoItemsAreHeld : ℕ → List ℕ → CodecError → Type 0
 NoItemsAreHeld count bytes = NoneIsHeld (λ it. it.0.collection.0 < count) (list item_cmp (item MAX_COMPONENTS) bytes)
 
--- the tags of a list
+-- the same of a list of tags
 abbrev pub TagsAreHeld : ℕ → List ℕ → Holdings → Holdings → List ℕ → Type 0
 TagsAreHeld count bytes old new rest = ListIsHeld (λ it. it.0.collection.0 < count) (with_tags old) (list marked_cmp (marked MAX_COMPONENTS) bytes) new rest
 
+-- memory was refused, or no such list of tags stands there
 abbrev pub NoTagsAreHeld : ℕ → List ℕ → CodecError → Type 0
 NoTagsAreHeld count bytes = NoneIsHeld (λ it. it.0.collection.0 < count) (list marked_cmp (marked MAX_COMPONENTS) bytes)
 
--- the instances of a list are done
+-- the same of a list of instances that are done
 abbrev pub InstancesAreDone : ℕ → List ℕ → Holdings → Holdings → List ℕ → Type 0
 InstancesAreDone count bytes old new rest = ListIsHeld (λ it. it.collection.0 < count) (with_ended old) (list inst_cmp (instance MAX_COMPONENTS) bytes) new rest
 
+-- memory was refused, or no such list of instances stands there
 abbrev pub NoInstancesAreDone : ℕ → List ℕ → CodecError → Type 0
 NoInstancesAreDone count bytes = NoneIsHeld (λ it. it.collection.0 < count) (list inst_cmp (instance MAX_COMPONENTS) bytes)
 

@@ -56,6 +56,6 @@ pub record ClaimsSome {D : Type 0} (old new : Core D) (most : ℕ) (more : List 
   pub err : IfErr result (RefusesClaim last new)
   pub halted : is_halted old ≡ true → 0 < most → IsErrOf result (Store Halted)
 
--- the tasks of several claims were added
+-- several claims, of the instances whose tasks were added behind the others
 abbrev pub ClaimsInto : {D : Type 0} → Opening → Known → Core D → Core D → ℕ → (before after : List Inst) → Result Bool CoreError → Type 0
 ClaimsInto opening known old new most before after result = (adds : AddsClaimed opening known most before after) × ClaimsSome old new most adds.more result

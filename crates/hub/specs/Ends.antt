@@ -18,7 +18,7 @@ MayAnswer (Gave given) (Stopped kind) = kind ≡ DoublePut
 MayAnswer (Fault bad) Done = ⊥
 MayAnswer (Fault bad) (Stopped kind) = kind ≡ bad.kind
 
--- the commit of the end that was returned was added, and it is one that this outcome may come to
+-- a finish may return this for the outcome, and the commit of the end that it says was added to what the pass has seen
 abbrev pub AddsEnd : Inst → Outcome → Known → Known → Committed → Type 0
 AddsEnd task outcome old new committed = MayAnswer outcome committed × Adds (end_of committed task outcome ∷ []) old new
 

@@ -50,8 +50,8 @@ CrashLeavesHistory files opening kept = (contents : Contents) → MayLeaveNow (f
     → StandsBeforeOrAfter opening.graph (environment_behind opening (commits kept.history)) (facts_behind opening (commits kept.history)) kept.core.in_doubt contents
 
 -- Of a core that was halted when the hub was opened a crash leaves what it might have left then.
-abbrev pub LeavesOpening : {D : Type 0} → (D → Side → File) → Opening → (left : ℕ → Contents → Type 0) → Kept D → Type 0
-LeavesOpening files opening left kept = opening.halted ≡ true → (contents : Contents) → MayLeaveNow (files kept.core.vault.disk) contents → left opening.moment contents
+abbrev pub LeavesAsOpened : {D : Type 0} → (D → Side → File) → Opening → (left : ℕ → Contents → Type 0) → Kept D → Type 0
+LeavesAsOpened files opening left kept = opening.halted ≡ true → (contents : Contents) → MayLeaveNow (files kept.core.vault.disk) contents → left opening.moment contents
 
 -- An instance runs, or one may be claimed.
 abbrev pub IsBusy : {D : Type 0} → Core D → Type 0

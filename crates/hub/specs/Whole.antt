@@ -32,10 +32,10 @@ pub record IsWhole {D : Type 0} (Ran : List Commit → Core D → Type 0) (openi
   pub ran : Ran (commits history) c
 
 -- such a history is there
-abbrev pub HasWhole : {D : Type 0} → (List Commit → Core D → Type 0) → Opening → List Known → List Known → Core D → Type 0
-HasWhole Ran opening envs workers c = (history : List Made) × IsWhole Ran opening envs workers c history
+abbrev pub HasWholeHistory : {D : Type 0} → (List Commit → Core D → Type 0) → Opening → List Known → List Known → Core D → Type 0
+HasWholeHistory Ran opening envs workers c = (history : List Made) × IsWhole Ran opening envs workers c history
 
--- these are the passes that a blank says
+-- these are the new passes that a blank is for, of the environment and of workers
 abbrev pub AreNewPasses : Blank → List Known → List Known → Type 0
 AreNewPasses blank envs workers = (envs ≡ new_passes 0 blank.envs) × (workers ≡ new_passes blank.envs blank.workers)
 

@@ -3,7 +3,7 @@ ghost use Rattle.std.specs.Prelude.{◌≡◌, ◌<◌, ◌++◌, ℕ, true, IfO
 ghost use Rattle.commit.specs.Runs.{NoneRuns};
 ghost use Rattle.hub.specs.Kept.{HasRun};
 ghost use Rattle.passes.specs.Roll.{has_number};
-ghost use Rattle.hub.specs.Whole.{IsWhole, WhyNotClosed, HasWhole};
+ghost use Rattle.hub.specs.Whole.{IsWhole, WhyNotClosed, HasWholeHistory};
 
 use crate::glance::Glance;
 use crate::{EnvPass, Hub, Kept, WorkPass};
@@ -50,7 +50,7 @@ impl<J: Naming, D: Disk> NotClosed<J, D> {
     // Tries to close the hub again.
     fn again(self) -> Result<Core<D>, NotClosed<J, D>>
         ensures all { OnOk result ((number : ℕ) → number < J.passes → has_number number (self.envs.items ++ self.workers.items) ≡ true) }
-        ensures whole { IfOk result (HasWhole (HasRun D.Disk J.opening J.left J.envs) J.opening self.envs.items self.workers.items) }
+        ensures whole { IfOk result (HasWholeHistory (HasRun D.Disk J.opening J.left J.envs) J.opening self.envs.items self.workers.items) }
         ensures idle { IfOk result NoneRuns }
         ensures err { IfErr result (λ again. (again.envs.items ≡ self.envs.items) × (again.workers.items ≡ self.workers.items)) }
     {
@@ -102,7 +102,7 @@ impl<J: Naming, D: Disk> Hub<J, D> {
         workers: Vec<WorkPass<J>>,
     ) -> Result<Core<D>, NotClosed<J, D>>
         ensures all { OnOk result ((number : ℕ) → number < J.passes → has_number number (envs.items ++ workers.items) ≡ true) }
-        ensures whole { IfOk result (HasWhole (HasRun D.Disk J.opening J.left J.envs) J.opening envs.items workers.items) }
+        ensures whole { IfOk result (HasWholeHistory (HasRun D.Disk J.opening J.left J.envs) J.opening envs.items workers.items) }
         ensures idle { IfOk result NoneRuns }
         ensures err { IfErr result (λ not_closed. (not_closed.envs.items ≡ envs.items) × (not_closed.workers.items ≡ workers.items)) }
         ensures cause { IfErr result (λ not_closed. WhyNotClosed J.passes (envs.items ++ workers.items) not_closed.error) }
@@ -143,7 +143,7 @@ impl<J: Naming, D: Disk> Hub<J, D> {
         workers: Vec<WorkPass<J>>,
     ) -> Core<D>
         ensures all { (number : ℕ) → number < J.passes → has_number number (envs.items ++ workers.items) ≡ true }
-        ensures whole { HasWhole (HasRun D.Disk J.opening J.left J.envs) J.opening envs.items workers.items result }
+        ensures whole { HasWholeHistory (HasRun D.Disk J.opening J.left J.envs) J.opening envs.items workers.items result }
         ensures idle { NoneRuns result }
     {
         let mut closed = self.close(envs, workers);

@@ -57,18 +57,18 @@ impl<J: Naming, D: Disk> Model for Kept<J, D> {
 }
 
 impl<J: Naming, D: Disk> Kept<J, D> {
-    ghost use Rattle.std.specs.Prelude.{◌≡◌, ◌↔◌, true, false, [], ◌∷◌, None, Some, Ok, Err, OnErr, OnOk, IfErr, IsErrOf, IfOk, IfSome, IsTrue};
+    ghost use Rattle.std.specs.Prelude.{◌≡◌, ◌↔◌, true, false, [], ◌∷◌, None, Ok, OnErr, OnOk, IfErr, IsErrOf, IfOk, IfSome, IsTrue};
     ghost use Rattle.commit.specs.declared.error.CoreError.TheVariants.{Store};
     ghost use Rattle.vault.specs.declared.error.VaultError.TheVariants.{Halted};
     ghost use Rattle.terms.specs.declared.event.Event.TheVariants.{EnvItem, EnvTag};
     ghost use Rattle.machine.specs.Machine.{IsValueAt, RefusesItem, RefusesTag, RefusesGet, RefusesRead};
     ghost use Rattle.graph.specs.Fits.{AddressIsOf};
     ghost use Rattle.graph.specs.Graph.{EnvironmentMayGet};
-    ghost use Rattle.commit.specs.Core.{facts, graph, is_halted};
+    ghost use Rattle.commit.specs.Core.{graph, is_halted};
     ghost use Rattle.passes.specs.Known.{commits};
     ghost use Rattle.passes.specs.Visits.{Shows, Writes};
     ghost use Rattle.hub.specs.Opening.{AreLegalBehind, IsBehind, WasTurned, facts_behind};
-    ghost use Rattle.hub.specs.Kept.{CrashLeavesHistory, HasRun, IsBusy, IsKept, LeavesOpening};
+    ghost use Rattle.hub.specs.Kept.{CrashLeavesHistory, HasRun, IsBusy, IsKept, LeavesAsOpened};
     ghost use Rattle.hub.specs.Ends.{AddsEnd, WritesEnd};
     ghost use Rattle.hub.specs.Replies.{Adds, AddsNoCommit, AddsNothing, MayRun, RefusesEvent, RefusesQuestion, RefusesWait, RefusesWatch, SaysHalted, Sees};
     ghost use Rattle.hub.specs.Tasks.{CallsWith, RefusesEndOf, RefusesTask};
@@ -99,7 +99,7 @@ impl<J: Naming, D: Disk> Kept<J, D> {
         ensures behind { IsBehind J.opening (commits self.now.history) self.now.core }
         ensures legal { AreLegalBehind J.opening (commits self.now.history) }
         ensures crash { IsTrue D.is_honest → (WasTurned J.opening → ⊥) → CrashLeavesHistory D.files J.opening self.now }
-        ensures rests { IsTrue D.is_honest → LeavesOpening D.files J.opening J.left self.now }
+        ensures rests { IsTrue D.is_honest → LeavesAsOpened D.files J.opening J.left self.now }
         ensures settled { is_halted self.now.core ≡ false → self.now.core.in_doubt ≡ [] }
     {
         self.core.is_kept();

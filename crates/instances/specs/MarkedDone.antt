@@ -61,7 +61,7 @@ LeftAreDone {K} marks = (key : K) (standing : Standing) → get marks key ≡ So
 abbrev pub AreSettled : FinMap key_cmp Standing → Marked Standing → Type 0
 AreSettled standings marks = (key : List ℤ) → get marks key ≡ option_map (λ standing. (standing, not (is_over standing))) (get standings key)
 
--- where these are all instances, and none of them was marked, those that are not done are marked
+-- if these are all instances, and none of them was marked, just those that are not done are marked now
 abbrev pub MarksOthers : List (List ℤ × Standing) → Marked Standing → Marked Standing → Type 0
 MarksOthers all old new = (standings : FinMap key_cmp Standing) → all ≡ entries standings → AreUnmarked standings old → AreSettled standings new
 

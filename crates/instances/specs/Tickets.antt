@@ -29,8 +29,8 @@ pub record HandsOut (known : Known) (before after : ℕ) (old new : List Ticket)
   pub ready : AllByRecursion (IsReady known) more
 
 -- the same, and it is said whether the last number was drawn
-abbrev pub HandsOutUntil : Known → ℕ → ℕ → List Ticket → List Ticket → Bool → Type 0
-HandsOutUntil known before after old new over = HandsOut known before after old new × ((over ≡ true) ↔ (after ≡ 2 ^ 64))
+abbrev pub HandsOutAndTells : Known → ℕ → ℕ → List Ticket → List Ticket → Bool → Type 0
+HandsOutAndTells known before after old new over = HandsOut known before after old new × ((over ≡ true) ↔ (after ≡ 2 ^ 64))
 
 -- one such ticket is added
 pub record AddsTicket (known : Known) (before after : ℕ) (old new : List Ticket) : Type 0 where

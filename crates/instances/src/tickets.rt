@@ -1,6 +1,6 @@
 //! Ready instances that are handed out as tickets.
 ghost use Rattle.std.specs.Prelude.{◌≡◌, ◌<◌, IfOk, OnErr, true, vec_capacity, vec_len};
-ghost use Rattle.instances.specs.Tickets.{AddsTicket, HandsOut};
+ghost use Rattle.instances.specs.Tickets.{AddsTicket};
 
 use crate::{Instances, Numbers, Task, Ticket};
 use std::alloc::AllocError;
@@ -13,7 +13,7 @@ impl Instances {
     ghost use Rattle.std.specs.Prelude.{◌≡◌, IfOk, IfSome, None, OnErr, Some, true};
     ghost use Rattle.instances.specs.declared.state.State.TheVariants.{Ready, Running};
     ghost use Rattle.instances.specs.Known.{state_at, MovesOne};
-    ghost use Rattle.instances.specs.Tickets.{HandsOutUntil};
+    ghost use Rattle.instances.specs.Tickets.{HandsOutAndTells};
 
     /// Hands out up to 64 ready instances as tickets, which it adds to these: such as no ticket stands for. The steps take turns. Which ones are handed out, and that any is, no clause says. Says whether the last number
     /// was drawn. An error adds no ticket.
@@ -23,7 +23,7 @@ impl Instances {
         tickets: &mut Vec<Ticket>,
     ) -> Result<bool, AllocError>
         ensures same { self.new ≡ self.old }
-        ensures ok { IfOk result (HandsOutUntil self.old numbers.old numbers.new tickets.old.items tickets.new.items) }
+        ensures ok { IfOk result (HandsOutAndTells self.old numbers.old numbers.new tickets.old.items tickets.new.items) }
         ensures refused { OnErr result ((numbers.new ≡ numbers.old) × (tickets.new.items ≡ tickets.old.items)) }
     {
         tickets.reserve(MOST_TICKETS)?;

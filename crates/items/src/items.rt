@@ -36,7 +36,7 @@ impl Model for Items {
 }
 
 impl Items {
-    ghost use Rattle.std.specs.Prelude.{◌+◌, ◌*◌, ◌/◌, ◌<◌, ◌≤◌, ◌-◌, ◌^◌, false, IfOk, IfErr, OnOk, OnErr, length, map, min};
+    ghost use Rattle.std.specs.Prelude.{◌<◌, ◌≤◌, ◌-◌, ◌^◌, false, IfOk, IfErr, OnOk, OnErr, length, map, min};
     ghost use Rattle.std.specs.FinMap.{entries};
     ghost use Rattle.maps.specs.Keyed.{ComparesFew};
     ghost use Rattle.maps.specs.Marked.{AreUnmarked};

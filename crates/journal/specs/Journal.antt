@@ -17,7 +17,7 @@ pub record IsAt (journal : Journal) (start : ℕ) (content : List ℕ) (payloads
   pub stands : StandsFor (drop start content) payloads
   pub end : journal.end ≡ start + length (records payloads)
 
--- what is found is all that these bytes stand for
+-- if these bytes stand for payloads, and something is found, it is just these
 abbrev pub FindsAll : {J E : Type 0} → List ℕ → Result (J × List (List ℕ)) E → Type 0
 FindsAll bytes result = (payloads : List (List ℕ)) → StandsFor bytes payloads → IfOk result (λ found. found.1 ≡ payloads)
 

@@ -117,9 +117,9 @@ pub record EndsTogether (g : Graph) (X : Facts) (events : List Event) (ended : E
   pub stops : StopsAt ended.stopped (drop ended.done events)
   pub legal : AreLegalFrom g X (cut ended events)
 
--- of these ends just what comes is left
-abbrev pub LeavesWhatEnds : Graph → Facts → List Event → List Event → Ended → Type 0
-LeavesWhatEnds g X old new ended = EndsTogether g X old ended × (new ≡ cut ended old)
+-- the answer to a look at these ends; and just what comes of them is left
+abbrev pub LeavesWhatComes : Graph → Facts → List Event → List Event → Ended → Type 0
+LeavesWhatComes g X old new ended = EndsTogether g X old ended × (new ≡ cut ended old)
 
 -- ---- how they are taken
 

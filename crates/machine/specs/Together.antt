@@ -45,8 +45,8 @@ pub record AreNewUpTo (held : Held) (events : List Event) (number : ℕ) : Type 
   pub next : IsOneNotNew held (puts_of_all (take (suc number) events))
 
 -- the answer says whether no address is twice in the list
-abbrev pub TellsDistinct : Bool → List Addr → Type 0
-TellsDistinct answer list = MatchBool answer ((address : Addr) → IsTwiceIn address list → ⊥) ((address : Addr) × IsTwiceIn address list)
+abbrev pub TellsDistinct : List Addr → Bool → Type 0
+TellsDistinct list answer = MatchBool answer ((address : Addr) → IsTwiceIn address list → ⊥) ((address : Addr) × IsTwiceIn address list)
 
 -- it says whether these puts are new together
 abbrev pub TellsNew : Held → List Put → Bool → Type 0

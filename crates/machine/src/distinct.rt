@@ -2,7 +2,6 @@ ghost use Rattle.std.specs.Prelude.{◌≡◌, ◌+◌, ◌≤◌, ◌++◌, len
 ghost use Rattle.machine.specs.Together.{TellsDistinct};
 ghost use Rattle.std.specs.List.{AllByRecursion};
 ghost use Rattle.std.specs.List.Sorted.{IsSorted};
-ghost use Rattle.terms.specs.declared.name.Addr.{Addr};
 ghost use Rattle.terms.specs.Name.{addr_cmp};
 ghost use Rattle.graph.specs.Fits.{addresses as addresses_of};
 ghost use Rattle.machine.specs.Group.{IsDone, puts_of_all};
@@ -43,7 +42,7 @@ pub(crate) fn gather_all(addresses: &mut Vec<Addr>, ends: &[Event]) -> Result<()
 /// Whether no address of a sorted list equals the one before it, so that no address is there twice.
 fn neighbours_differ(addresses: &[Addr]) -> bool
     requires { IsSorted addr_cmp addresses.now }
-    ensures { TellsDistinct result addresses.now }
+    ensures { TellsDistinct addresses.now result }
 {
     for later in 1..addresses.len() {
         if addr_order(&addresses[later - 1], &addresses[later]).is_eq() {
@@ -55,7 +54,7 @@ fn neighbours_differ(addresses: &[Addr]) -> bool
 
 /// Whether no address is there twice. It sorts the addresses, and allocates no memory.
 pub(crate) fn all_differ(addresses: &mut Vec<Addr>) -> bool
-    ensures distinct { TellsDistinct result addresses.old.items }
+    ensures distinct { TellsDistinct addresses.old.items result }
     ensures capacity { vec_capacity addresses.new ≡ vec_capacity addresses.old }
 {
     addresses.sort_unstable();
@@ -65,7 +64,7 @@ pub(crate) fn all_differ(addresses: &mut Vec<Addr>) -> bool
 /// Whether no two items of these puts are at one address. It allocates no memory: there is room for their addresses.
 pub(crate) fn are_distinct(addresses: &mut Vec<Addr>, puts: &[Put]) -> bool
     requires { length puts.now ≤ vec_capacity addresses.old }
-    ensures distinct { TellsDistinct result (addresses_of puts.now) }
+    ensures distinct { TellsDistinct (addresses_of puts.now) result }
     ensures capacity { vec_capacity addresses.new ≡ vec_capacity addresses.old }
 {
     addresses.clear();

@@ -7,9 +7,9 @@ use std::alloc::AllocError;
 use terms::{facts_are_told_apart, orders_are_total};
 
 impl Machine {
-    ghost use Rattle.std.specs.Prelude.{◌≡◌, ◌<◌, IfOk, IfSome, None, OnErr, Some};
-    ghost use Rattle.instances.specs.Tickets.{HandsOutUntil};
-    ghost use Rattle.machine.specs.Machine.{facts, ready_count};
+    ghost use Rattle.std.specs.Prelude.{◌≡◌, ◌<◌, IfOk, IfSome, None, OnErr};
+    ghost use Rattle.instances.specs.Tickets.{HandsOutAndTells};
+    ghost use Rattle.machine.specs.Machine.{ready_count};
 
     /// Hands out up to 64 ready instances as tickets, which it adds to these: such as no ticket stands for. If a fault stopped the store, none is handed out. Says whether the
     /// last number was drawn. An error adds no ticket.
@@ -19,7 +19,7 @@ impl Machine {
         tickets: &mut Vec<Ticket>,
     ) -> Result<bool, AllocError>
         ensures same { self.new ≡ self.old }
-        ensures ok { IfOk result (HandsOutUntil self.old.memory.instances numbers.old numbers.new tickets.old.items tickets.new.items) }
+        ensures ok { IfOk result (HandsOutAndTells self.old.memory.instances numbers.old numbers.new tickets.old.items tickets.new.items) }
         ensures refused { OnErr result ((numbers.new ≡ numbers.old) × (tickets.new.items ≡ tickets.old.items)) }
     {
         if self.memory.fault.is_some() {

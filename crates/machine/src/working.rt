@@ -6,7 +6,7 @@ use std::alloc::AllocError;
 use terms::{Addr, Put, facts_are_told_apart, orders_are_total};
 
 impl Machine {
-    ghost use Rattle.std.specs.Prelude.{◌≡◌, ◌<◌, IfSome, IsSome, OnErr, OnOk, None, Some, is_some};
+    ghost use Rattle.std.specs.Prelude.{◌≡◌, ◌<◌, IfSome, IsSome, OnErr, OnOk, None, Some};
     ghost use Rattle.instances.specs.declared.state.State.TheVariants.{Ready, Running};
     ghost use Rattle.graph.specs.Fits.{IsAbsent, HasNoFault};
     ghost use Rattle.machine.specs.Legal.{Needs};

@@ -13,7 +13,7 @@ pub record Keyed (X : Type 0) : Type 0 where
 abbrev pub none : {X : Type 0} → Keyed X
 none = record { items = empty; room = 0 }
 
--- how many comparisons a search takes: with so many entries, of `d` binary digits, at most `d * (d + 1) / 2`
+-- a search among this many entries, fewer than `2 ^ d`, makes at most `d * (d + 1) / 2` comparisons
 abbrev pub ComparesFew : ℕ → ℕ → ℕ → Type 0
 ComparesFew count old new = (digits : ℕ) → count < 2 ^ digits → new ≤ old + digits * (digits + 1) / 2
 

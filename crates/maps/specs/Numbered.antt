@@ -20,7 +20,7 @@ pub record Numbered (X : Type 0) : Type 0 where
   pub items : FinMap place_cmp X
   pub room : List ℕ
 
--- no entries, and no room, for so many collections
+-- no entries, and no room for any, of so many collections
 abbrev pub none_held : {X : Type 0} → ℕ → Numbered X
 none_held count = record { items = empty; room = replicate count 0 }
 

@@ -31,17 +31,17 @@ impl<V: Stored> Model for CollectionMap<V> {
 }
 
 impl<V: Stored> CollectionMap<V> {
-    ghost use Rattle.std.specs.Prelude.{◌≡◌, ◌<◌, ◌≤◌, ◌+◌, ◌-◌, ◌*◌, ◌/◌, ◌^◌, IfOk, IfErr, OnOk, OnErr, length, min, replicate};
-    ghost use Rattle.std.specs.FinMap.{empty, entries, get, insert};
+    ghost use Rattle.std.specs.Prelude.{◌≡◌, ◌<◌, ◌≤◌, ◌-◌, ◌^◌, IfOk, IfErr, OnOk, OnErr, length, min, replicate};
+    ghost use Rattle.std.specs.FinMap.{entries, get};
     ghost use Rattle.maps.specs.Insertion.{IsRefused};
     ghost use Rattle.maps.specs.Keyed.{ComparesFew};
     ghost use Rattle.maps.specs.Marked.{AreUnmarked};
-    ghost use Rattle.maps.specs.Numbered.{of_number, room_at, AddsAt, OnlyMakesRoom};
+    ghost use Rattle.maps.specs.Numbered.{none_held, of_number, room_at, AddsAt, OnlyMakesRoom};
 
     /// A map without entries, for this number of collections.
     pub fn new(alloc: Global, collections: usize) -> Result<Self, AllocError>
         requires { collections ≤ 2 ^ 16 }
-        ensures { IfOk result (λ m. m ≡ record { items = empty; room = replicate collections 0 }) }
+        ensures { IfOk result (λ m. m ≡ none_held collections) }
     {
         Ok(CollectionMap {
             collections: empty_maps(alloc, collections)?,

@@ -26,7 +26,7 @@ impl<V: Stored> Model for KeyMap<V> {
 }
 
 impl<V: Stored> KeyMap<V> {
-    ghost use Rattle.std.specs.Prelude.{◌≡◌, ◌+◌, ◌*◌, ◌/◌, ◌<◌, ◌≤◌, IfErr, IfOk, OnOk, OnErr, length};
+    ghost use Rattle.std.specs.Prelude.{◌≡◌, ◌<◌, ◌≤◌, IfErr, IfOk, OnOk, OnErr, length};
     ghost use Rattle.std.specs.FinMap.{entries, get};
     ghost use Rattle.maps.specs.Insertion.{IsRefused};
     ghost use Rattle.maps.specs.Keyed.{none, Adds, ComparesFew};

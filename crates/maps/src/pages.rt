@@ -56,7 +56,7 @@ impl<V: Stored> Model for Pages<V> {
 }
 
 impl<V: Stored> Pages<V> {
-    ghost use Rattle.std.specs.Prelude.{◌≡◌, ◌+◌, ◌*◌, ◌/◌, ◌^◌, ◌<◌, ◌≤◌, ℕ, ℤ, List, [], T, IsTrue, OnErr, OnOk, length, get_or};
+    ghost use Rattle.std.specs.Prelude.{◌≡◌, ◌+◌, ◌*◌, ◌^◌, ◌<◌, ◌≤◌, ℕ, ℤ, List, [], T, IsTrue, OnErr, OnOk, length, get_or};
     ghost use Rattle.std.specs.Ordering.{is_lt};
     ghost use Rattle.std.specs.FinMap.{find, is_sorted, put};
     ghost use Rattle.terms.specs.Key.{key_cmp};

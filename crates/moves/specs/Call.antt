@@ -1,9 +1,6 @@
 -- The calls of a core that change it, each with its arguments and what it returned; and the commits that they acknowledge.
 use Rattle.disk.specs.declared.storage.Disk.{Ghosts}
 use Rattle.std.specs.Prelude.{◌≡◌, ◌<◌, ℕ, ℤ, length, List, [], ◌∷◌, Option, Result, Ok, Err}
-use Rattle.disk.specs.declared.side.Side.{Side}
-use Rattle.disk.specs.File.{File}
-use Rattle.disk.specs.Time.{Contents}
 use Rattle.terms.specs.declared.name.Addr.{Addr}
 use Rattle.terms.specs.declared.name.Tag.{Tag}
 use Rattle.terms.specs.declared.name.Inst.{Inst}
@@ -14,13 +11,12 @@ use Rattle.terms.specs.Commits.{Commit}
 use Rattle.instances.specs.declared.state.State.TheVariants.{Ready}
 use Rattle.machine.specs.declared.group.Ended.{Ended}
 use Rattle.machine.specs.Group.{cut}
-use Rattle.machine.specs.Machine.{RefusesItem, RefusesTag}
 use Rattle.commit.specs.declared.error.CoreError.{CoreError}
 use Rattle.commit.specs.declared.outcome.Outcome.{Outcome}
 use Rattle.commit.specs.declared.outcome.Committed.{Committed}
 use Rattle.commit.specs.Batch.{EndsAll}
-use Rattle.commit.specs.Calls.{CommitsAs}
-use Rattle.commit.specs.Core.{Core, graph, facts}
+use Rattle.commit.specs.Calls.{PutsItem, PutsTag}
+use Rattle.commit.specs.Core.{Core}
 use Rattle.commit.specs.Outcome.{IsEndOf, end_of}
 use Rattle.commit.specs.Runs.{Ends}
 use Rattle.commit.specs.Steps.{Claims, Moves, Parks, SetsAllowance, Wakes}
@@ -44,8 +40,8 @@ pub data Call : Type 0 where
 -- The call does what its contract says, from one core to the next.
 module _ {D : Type 0} (storage : Ghosts D) where
   abbrev pub Does : Call → (old new : Core D) → Type 0
-  Does (puts_item address value result) old new = CommitsAs storage old new (RefusesItem (graph old) (facts old) address) (EnvItem address value) result
-  Does (puts_tag name result) old new = CommitsAs storage old new (RefusesTag (graph old) (facts old) name) (EnvTag name) result
+  Does (puts_item address value result) old new = PutsItem storage old new address value result
+  Does (puts_tag name result) old new = PutsTag storage old new name result
   Does (claims at result) old new = Claims old new at result
   Does (parks instance address result) old new = Parks old new instance address result
   Does (releases instance) old new = Moves old new instance Ready

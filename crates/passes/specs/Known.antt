@@ -61,7 +61,7 @@ first_desk = record { book = record { history = []; passes = 0 }; guest = None }
 abbrev pub up_to_date : List Made → Known → Known
 up_to_date history known = record known { seen = commits history }
 
--- these views are that of a pass that has seen the whole history of the desk
+-- there is one view, that of this pass, which has seen the whole history of the desk now
 abbrev pub HasSeenAll : Desk → List SeatView → Known → Type 0
 HasSeenAll d views known = views ≡ pass (up_to_date d.book.history known) ∷ []
 

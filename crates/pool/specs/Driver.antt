@@ -18,6 +18,6 @@ abbrev pub may_spawn : {R P : Type 0} → Driver R P → Bool
 may_spawn Alone = false
 may_spawn (Crew crew) = true
 
--- a run of this driver
+-- a run with a limit, by this driver
 abbrev pub RunsBy : {D R P : Type 0} → Ghosts D → Bool → Driver R P → Core D → Core D → ℕ → Result Verdict RunError → Type 0
 RunsBy storage may_stop driver old new limit result = RunsWithin storage (may_be_asked may_stop driver) (may_spawn driver) old new limit result

@@ -126,10 +126,10 @@ pub record WorksOn {D : Type 0} (storage : Ghosts D) (old new : Core D) (full : 
   pub runs : Runs storage old new commits
   pub met : full ≡ true → MetFull (graph old) (facts old) old.vault.journal.end commits
 
--- there is room for a handle of each worker, for all passes, and for one more
+-- beside the handles there is room for one of each worker; beside the passes, for one of each worker and of each handle, and for one more
 abbrev pub HasRoomForAll : {W H P : Type 0} → Vec W → Vec H → Vec P → Type 0
 HasRoomForAll workers handles passes = (vec_len workers + vec_len handles ≤ vec_capacity handles) × (vec_len workers + vec_len handles + vec_len passes + 1 ≤ vec_capacity passes)
 
--- what is said of the workers is so: a stop was asked only if the probe may, and one met `Full` only if a pass saw such a prefix
-abbrev pub IsSo : Bool → Opening → Causes → List Known → Type 0
-IsSo may_stop opening causes passes = (causes.asked ≡ true → may_stop ≡ true) × (causes.full ≡ true → OneSawFull opening passes)
+-- a stop was asked for only if the probe may answer `Stop`, and a worker met `Full` only if one of the passes saw such a prefix
+abbrev pub AreTrueCauses : Bool → Opening → Causes → List Known → Type 0
+AreTrueCauses may_stop opening causes passes = (causes.asked ≡ true → may_stop ≡ true) × (causes.full ≡ true → OneSawFull opening passes)

@@ -4,7 +4,7 @@ ghost use Rattle.commit.specs.Core.{is_halted};
 ghost use Rattle.commit.specs.Runs.{NoneRuns};
 ghost use Rattle.hub.specs.Whole.{IsNamedFor};
 ghost use Rattle.pool.specs.declared.worker.Met.TheVariants.{Asked as MetAsked, Full as MetFull, NoMemory};
-ghost use Rattle.pool.specs.Worked.{OneSawFull, WorksOn, HasRoomForAll, IsSo};
+ghost use Rattle.pool.specs.Worked.{OneSawFull, WorksOn, HasRoomForAll, AreTrueCauses};
 
 use crate::Probe;
 use crate::shelf::Shelf;
@@ -187,7 +187,7 @@ fn in_threads<
         rt,
         move |scope| -> Back<J>
             requires { HasRoomForAll crew.workers handles passes }
-            ensures { IsSo P.may_stop J.opening result.causes result.passes.items }
+            ensures { AreTrueCauses P.may_stop J.opening result.causes result.passes.items }
         {
             let started = start(scope, rt, alloc, hub, probe, boss, crew, handles, passes);
             join_all(rt, started)

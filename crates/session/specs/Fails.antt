@@ -133,7 +133,7 @@ module _ {D : Type 0} (storage : Ghosts D) {S : Type 0} (contents : S → Option
   abbrev pub AnswersInput : (drive : Bool → Drive) → (input : Option (List ℕ)) → (here there : S) → (old new : Core D) → Result Ending SessionError → Type 0
   AnswersInput drive input here there old new result = Answers storage (drive (is_halted old)) input (contents here) (contents there) old new result
 
-  -- the same of a driver and a limit, and of the core alone
+  -- the same, with this driver and this limit; and, with the limit, of the core alone
   abbrev pub AnswersWith : {R P : Type 0} → ℕ → Bool → Driver R P → (input : Option (List ℕ)) → (here there : S) → (old new : Core D) → Result Ending SessionError → Type 0
   AnswersWith limit may_stop driver = AnswersInput (drive_by limit may_stop driver)
 

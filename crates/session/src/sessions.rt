@@ -2,7 +2,7 @@
 ghost use Rattle.std.specs.Prelude.{IfErr, IfOk};
 ghost use Rattle.script.specs.Script.{IsScript};
 ghost use Rattle.commit.specs.Runs.{NoneRuns};
-ghost use Rattle.session.specs.Fails.{AnswersInput, FailsToRead, IsRefusedAs, ReadsScript, AnswersAlone, AnswersWith};
+ghost use Rattle.session.specs.Fails.{FailsToRead, IsRefusedAs, ReadsScript, AnswersAlone, AnswersWith};
 ghost use Rattle.session.specs.Streams.{TellsSink, TellsSource};
 
 use crate::commands::{run_script, run_script_alone};

@@ -31,6 +31,6 @@ abbrev pub LeavesFirst : (count start : ℕ) → (old new : List ℕ) → Type 0
 LeavesFirst count start old new =
     (g : Graph) (generation : ℕ) (E X : Facts) (side : IsSide old g generation E X) → start ≡ start_of side → HasFirst count side new
 
--- where the old bytes stand for a list of payloads, the new ones stand for the first of them
+-- if the old bytes stand for payloads, the new ones stand for the first of them, this many, or all if there are no more
 abbrev pub KeepsFirst : ℕ → List ℕ → List ℕ → Type 0
 KeepsFirst count old new = (payloads : List (List ℕ)) → StandsFor old payloads → StandsFor new (take count payloads)

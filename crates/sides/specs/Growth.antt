@@ -39,21 +39,21 @@ abbrev pub PutFits : Graph → Facts → Put → Type 0
 PutFits g X one = PutIsOf g one × IsFree X one
 
 -- these puts fit: they are of the graph, and new
-abbrev pub PutsFit : Graph → Facts → List Put → Type 0
-PutsFit g X puts = AllByRecursion (PutIsOf g) puts × AreNew X puts
+abbrev pub AllPutsFit : Graph → Facts → List Put → Type 0
+AllPutsFit g X puts = AllByRecursion (PutIsOf g) puts × AreNew X puts
 
 -- an instance may end with these puts
 abbrev pub EndFits : Graph → Facts → Inst → List Put → Type 0
-EndFits g X instance puts = MayEnd g X instance × PutsFit g X puts
+EndFits g X instance puts = MayEnd g X instance × AllPutsFit g X puts
 
--- an instance ended with these puts
+-- what is held grows by the end of an instance with these puts
 abbrev pub GrowsByEnd : Inst → List Put → Holdings → Holdings → Type 0
 GrowsByEnd instance puts = Grows [] (done instance ∷ put_facts instance 0 puts)
 
--- an item was put
+-- what is held grows by an item
 abbrev pub GrowsByItem : Addr → ℤ → Producer → Holdings → Holdings → Type 0
 GrowsByItem address value by = Grows (environment_item address value by) (item address value by ∷ [])
 
--- a tag was put, with a mark if the environment put it
+-- what is held grows by a tag, which is marked if the environment put it
 abbrev pub GrowsByTag : Tag → Bool → Holdings → Holdings → Type 0
 GrowsByTag name mark = Grows (environment_tag (name, mark)) (tag name ∷ [])

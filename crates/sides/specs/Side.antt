@@ -89,10 +89,10 @@ abbrev pub AnyRest : Type 0
 AnyRest = (bytes : List ℕ) (g : Graph) (n : ℕ) (E X : Facts) (side : IsSide bytes g n E X)
     → (front : List ℕ) × (rest : List ℕ) × (bytes ≡ front ++ rest) × (length front ≡ end_of side + 1) × ((other : List ℕ) → IsSide (front ++ other) g n E X)
 
--- the bytes of a side stand for nothing
+-- the bytes are no side, of whatever graph, generation and facts
 abbrev pub IsNoSide : List ℕ → Type 0
 IsNoSide bytes = (g : Graph) (generation : ℕ) (E X : Facts) → IsSide bytes g generation E X → ⊥
 
--- the image counts so few bytes that four can say how many: then what was appended is such a side, behind its gate, with no record
+-- if four bytes can say how many bytes the image has, a side of this generation, text and image was appended, without its gate and with no record
 abbrev pub AppendsSide : ℕ → List ℕ → Image → List ℕ → List ℕ → Type 0
 AppendsSide generation text image old new = length (image_bytes image) < 2 ^ 32 → new ≡ old ++ behind_gate FORMAT generation text (image_bytes image) (0 ∷ [])

@@ -1,6 +1,5 @@
 //! The parts of a side before its journal. A missing part is no error here: the functions return `None`.
 ghost use Rattle.std.specs.Prelude.{◌≤◌, length, IfOk, IfSome, MatchOption};
-ghost use Rattle.graph.specs.Canonical.{canonical};
 ghost use Rattle.holdings.specs.Holdings.{HavePutNumbers, IsFor};
 ghost use Rattle.sides.specs.Reading.{IsCountedAt, HasNoneAt, FindsGraph, FindsImageOf};
 

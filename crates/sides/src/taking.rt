@@ -1,12 +1,12 @@
 ghost use Rattle.std.specs.Prelude.{◌≡◌, ◌↔◌, ◌≤◌, ◌<◌, IsTrue, IfOk, [], ◌∷◌, length, false, None};
 ghost use Rattle.std.specs.List.{AllByRecursion};
-ghost use Rattle.terms.specs.Facts.{tag, item, done, bad, put_fact, put_facts, facts, environment};
+ghost use Rattle.terms.specs.Facts.{tag, bad, put_fact, put_facts, facts, environment};
 ghost use Rattle.codec.specs.Spelling.{IsNumbered, HasFewPuts};
 ghost use Rattle.codec.specs.Image.{image_facts};
 ghost use Rattle.terms.specs.declared.put.TheConstants.{MOST_PUTS};
 ghost use Rattle.graph.specs.Fits.{AllFit, Fits, FitsAs, MayEnd, IsAbsent};
 ghost use Rattle.holdings.specs.Holdings.{HavePutNumbers, IsFor, image_of, facts_held};
-ghost use Rattle.sides.specs.Growth.{EndFits, Grows, IsGrownBy, PutFits, GrowsByEnd, GrowsByItem, GrowsByTag, PutsFit};
+ghost use Rattle.sides.specs.Growth.{EndFits, Grows, IsGrownBy, PutFits, GrowsByEnd, GrowsByItem, GrowsByTag, AllPutsFit};
 
 use crate::fitting::{is_done, is_prescribed};
 use graph::{Graph, fitting};
@@ -169,7 +169,7 @@ fn take_puts(
 ) -> Result<bool, AllocError>
     requires few { length puts.now ≤ MOST_PUTS }
     requires collections { IsFor graph.now holdings.old }
-    ensures fits { IfOk result (λ taken. IsTrue taken ↔ PutsFit graph.now (facts_held holdings.old) puts.now) }
+    ensures fits { IfOk result (λ taken. IsTrue taken ↔ AllPutsFit graph.now (facts_held holdings.old) puts.now) }
     ensures grown { IfOk result (λ taken. IsTrue taken → Grows [] (put_facts instance.now 0 puts.now) holdings.old holdings.new) }
     ensures numbered { HavePutNumbers holdings.old → IfOk result (λ taken. IsTrue taken → HavePutNumbers holdings.new) }
 {

@@ -48,7 +48,7 @@ LeadsFrom from Ended new progress = (reads : List Read) → from reads ≡ ends 
 abbrev pub CarriesOut : Instruction → Machine → Progress → Machine → Progress → Step → Type 0
 CarriesOut one old before new after step = LeadsFrom (outcome_after one old before) step new after
 
--- it carries it out, unless memory was refused
+-- at `Ok` the step carries it out
 abbrev pub Carries : {E : Type 0} → Instruction → Machine → Progress → Machine → Progress → Result Step E → Type 0
 Carries one old before new after result = IfOk result (CarriesOut one old before new after)
 

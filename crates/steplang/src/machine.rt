@@ -2,7 +2,6 @@ ghost use Rattle.std.specs.Prelude.{◌≡◌, ◌≢◌, ◌<ℤ◌, slice_get,
 ghost use Rattle.std.specs.Ordering.{int_eq};
 ghost use Rattle.steptree.specs.declared.body.TheConstants.{BUDGET};
 ghost use Rattle.steptree.specs.declared.code.Instruction.TheVariants as instruction;
-ghost use Rattle.steptree.specs.Bodies.{outcome_of};
 ghost use Rattle.steptree.specs.Compiled.{Stands};
 ghost use Rattle.steptree.specs.Executed.{advanced};
 ghost use Rattle.steplang.specs.Stages.{IsStarted};

@@ -25,7 +25,7 @@ use Rattle.codec.specs.Spelling.{SpellsImage, image_bytes}
 use Rattle.codec.specs.Image.{Lists}
 use Rattle.terms.specs.Sets.{Facts, with_facts}
 use Rattle.terms.specs.declared.key.TheConstants.{MAX_COMPONENTS}
-use Rattle.vault.specs.Store.{Holds, HasGates, IsLast, IsReady, IsSame, IsTooLong, StandsBeforeOrAfter, new_side, empty, nothing}
+use Rattle.vault.specs.Store.{Holds, HasGates, IsLast, IsReady, IsSame, IsTooLong, StandsBeforeOrAfter, new_side, empty, nothing, OneHasBytes}
 
 -- ---- calls of a vault
 
@@ -113,7 +113,7 @@ pub record IsCreated {D : Type 0} (files : D → Side → File) (text : List ℕ
 -- one might have left before. `Exists` says that one is not empty.
 pub record LeavesNonEmpty {D T : Type 0} (storage : Ghosts D) (old new : D) (result : Result T VaultError) : Type 0 where
   pub were_empty : OnOk result ((side : Side) → (storage.files old side).content ≡ [])
-  pub exists : IsErrOf result Exists → ((storage.files old A).content ≢ []) ⊎ ((storage.files old B).content ≢ [])
+  pub exists : IsErrOf result Exists → OneHasBytes (storage.files old)
   pub kept : (some : Side) → (storage.files old some).content ≢ [] → (side : Side) → storage.files new side ≡ storage.files old side
   pub moments : (some : Side) → (storage.files old some).content ≢ [] → Leaves storage old new (MayLeaveNow (storage.files old))
 

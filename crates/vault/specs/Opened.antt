@@ -58,13 +58,9 @@ SaysCutShort side bytes error = IsCutShort bytes × (error ≡ Damaged side (len
 abbrev pub ErredOrCutShort : Type 0 → Side → List ℕ → VaultError → Type 0
 ErredOrCutShort erred side bytes error = erred ⊎ SaysCutShort side bytes error
 
--- the error is damage of this side
-abbrev pub IsDamageOf : Side → VaultError → Type 0
-IsDamageOf side error = (place : ℕ) × (error ≡ Damaged side place)
-
--- what is so if a side has a generation
-abbrev pub OfGeneration : List ℕ → Type 0 → Type 0
-OfGeneration bytes P = (generation : ℕ) → HasGeneration bytes generation → P
+-- P holds if the bytes have a generation
+abbrev pub IfHasGeneration : List ℕ → Type 0 → Type 0
+IfHasGeneration bytes P = (generation : ℕ) → HasGeneration bytes generation → P
 
 -- both sides are open, with one generation
 abbrev pub AreOfOneGeneration : Contents → Type 0
@@ -91,13 +87,21 @@ HeadsFault contents error =
     ⊎ (AreOfOneGeneration contents × (error ≡ Damaged A 2))
     ⊎ (NoneIsOpen contents × (error ≡ NotAStore))
 
--- a fault of the heads is returned, unless a call of the disk returned an error
+-- if the heads have a fault, it is what is returned, unless a call of the disk returned an error
 abbrev pub ReturnsFault : {T : Type 0} → Contents → Type 0 → Result T VaultError → Type 0
 ReturnsFault contents erred result = (error : VaultError) → HeadsFault contents error → IsErrOf result error ⊎ erred
 
--- what is so of all files whose sides have these generations, or are closed
-abbrev pub OfGenerations : Option ℕ → Option ℕ → (Contents → Type 0) → Type 0
-OfGenerations a b P = (contents : Contents) → IsGenerationOf a (contents A) → IsGenerationOf b (contents B) → P contents
+-- P holds of any two files whose sides have these generations; where there is none, the side is closed
+abbrev pub ForGenerations : Option ℕ → Option ℕ → (Contents → Type 0) → Type 0
+ForGenerations a b P = (contents : Contents) → IsGenerationOf a (contents A) → IsGenerationOf b (contents B) → P contents
+
+-- the fault of two whole heads of which none is ahead: none is open, or both have one generation
+abbrev pub IsWholeFault : Contents → VaultError → Type 0
+IsWholeFault contents error = ((error ≡ NotAStore) × NoneIsOpen contents) ⊎ ((error ≡ Damaged A 2) × AreOfOneGeneration contents)
+
+-- P holds if both sides have one generation
+abbrev pub IfAlike : Contents → Type 0 → Type 0
+IfAlike contents P = (generation : ℕ) → HasGeneration (contents A) generation → HasGeneration (contents B) generation → P
 
 -- the error is damage of the side that is ahead, at a place
 abbrev pub IsOfAhead : Contents → VaultError → Type 0
@@ -118,9 +122,11 @@ pub record IsSound (g : Graph) (held : Holdings) (generation end : ℕ) (text : 
   pub fits : FitsState g (environment_held held) (facts_held held)
   pub one_item : HasOneItemEach (facts_held held)
 
+-- the parts of what was found in a side fit together so
 abbrev pub IsSoundFound : Found → Type 0
 IsSoundFound found = IsSound found.graph found.holdings found.generation found.journal.end found.text.items
 
+-- so do the parts of a store that was opened
 abbrev pub IsSoundStore : {D : Type 0} → Recovered D → Type 0
 IsSoundStore r = IsSound r.graph r.holdings r.vault.generation r.vault.journal.end r.vault.text.items
 
@@ -157,6 +163,6 @@ pub record TellsWhy {T : Type 0} (contents : Contents) (erred : Type 0) (result 
 abbrev pub IsOfOpening : VaultError → Type 0
 IsOfOpening error = (error ≢ Full) × (error ≢ Halted) × (error ≢ Exists)
 
--- the same, of what a call of the disk left
+-- the same, of what the files had before some calls of the disk
 abbrev pub TellsWhyOn : {D T : Type 0} → Ghosts D → D → D → Result T VaultError → Type 0
 TellsWhyOn storage old new result = TellsWhy (contents_of (storage.files old)) (Errs storage old new) result

@@ -66,15 +66,15 @@ StandsBeforeOrAfter g E X commit contents = Stands contents g E X ⊎ Stands con
 abbrev pub BComesFirst : Contents → Type 0
 BComesFirst contents = (contents A ≡ []) ⊎ (contents B ≡ 0 ∷ [])
 
--- one of the files has bytes
+-- file A has bytes, or file B has
 abbrev pub OneHasBytes : (Side → File) → Type 0
 OneHasBytes files = ((files A).content ≢ []) ⊎ ((files B).content ≢ [])
 
--- what is so if both files are empty, and A is so on the disk
-abbrev pub OfEmptyFiles : (Side → File) → Type 0 → Type 0
-OfEmptyFiles files P = files A ≡ at_rest [] → (files B).content ≡ [] → P
+-- P holds if both files are empty, and all of file A is on the disk
+abbrev pub IfEmptyFiles : (Side → File) → Type 0 → Type 0
+IfEmptyFiles files P = files A ≡ at_rest [] → (files B).content ≡ [] → P
 
--- an empty file gets these bytes, which begin with a closed gate, and then its gate is opened
+-- if the file was empty and these bytes begin with a closed gate, at `Ok` it has them with an open gate, and all of it is on the disk
 abbrev pub GetsOpened : {T E : Type 0} → List ℕ → File → File → Result T E → Type 0
 GetsOpened bytes old new result = (rest : List ℕ) → bytes ≡ 0 ∷ rest → old.content ≡ [] → OnOk result (new ≡ at_rest (1 ∷ rest))
 
@@ -111,6 +111,10 @@ abbrev pub answer_of : {D T : Type 0} → Result T (Refused D) → Result T Vaul
 answer_of (Ok value) = Ok value
 answer_of (Err refused) = Err refused.error
 
+-- the error is damage of this side
+abbrev pub IsDamageOf : Side → VaultError → Type 0
+IsDamageOf side error = (place : ℕ) × (error ≡ Damaged side place)
+
 -- the error says that the files stand for nothing
 abbrev pub SaysNothing : VaultError → Type 0
-SaysNothing error = (error ≡ NotAStore) ⊎ ((side : Side) × (place : ℕ) × (error ≡ Damaged side place))
+SaysNothing error = (error ≡ NotAStore) ⊎ ((side : Side) × IsDamageOf side error)

@@ -8,9 +8,8 @@ ghost use Rattle.sides.specs.Side.{behind_gate};
 ghost use Rattle.vault.specs.Calls.{IsCreated, IsNew, LeavesNonEmpty, RefusesToMake};
 ghost use Rattle.vault.specs.Made.{AreNewFiles, IsMade};
 ghost use Rattle.sides.specs.Reading.{IsCanonical};
-ghost use Rattle.vault.specs.Store.{BComesFirst, disk_of, answer_of, empty, OneHasBytes, OfEmptyFiles, GetsOpened};
+ghost use Rattle.vault.specs.Store.{BComesFirst, disk_of, answer_of, empty, OneHasBytes, IfEmptyFiles, GetsOpened};
 ghost use Rattle.vault.specs.Opened.{OnlyReads};
-ghost use Rattle.vault.specs.declared.error.VaultError.TheVariants.{Exists};
 ghost use Rattle.sides.specs.declared.gate.TheConstants.{FORMAT};
 
 use crate::{Refused, Vault, VaultError};
@@ -138,7 +137,7 @@ fn is_there<D: Disk>(disk: &mut D) -> Result<bool, DiskError>
 fn write_sides<D: Disk>(disk: &mut D, bytes: &[u8]) -> Result<(), DiskError>
     ensures a { IsTrue D.is_honest → GetsOpened bytes.now (D.files disk.old A) (D.files disk.new A) result }
     ensures b { IsTrue D.is_honest → (D.files disk.old B).content ≡ [] → OnOk result (D.files disk.new B ≡ at_rest (0 ∷ [])) }
-    ensures begins { IsTrue D.is_honest → OfEmptyFiles (D.files disk.old) (Leaves D.Disk disk.old disk.new BComesFirst) }
+    ensures begins { IsTrue D.is_honest → IfEmptyFiles (D.files disk.old) (Leaves D.Disk disk.old disk.new BComesFirst) }
     ensures reports { Reports D.Disk disk.old disk.new result }
 {
     write_synced(disk, Side::B, 0, &[0])?;

@@ -1,10 +1,9 @@
 ghost use Rattle.std.specs.Prelude.{IfOk, IfErr, IsErrOf};
-ghost use Rattle.disk.specs.declared.side.Side.{Side};
 ghost use Rattle.sides.specs.Reading.{IsRead};
 ghost use Rattle.sides.specs.Side.{IsNoSide};
-ghost use Rattle.vault.specs.Store.{SaysNothing};
-ghost use Rattle.vault.specs.Opened.{IsFoundIn, IsOfOpening, IsSoundFound, IsDamageOf, OfGeneration};
-ghost use Rattle.vault.specs.declared.error.VaultError.TheVariants.{Device, NotAStore, Damaged};
+ghost use Rattle.vault.specs.Store.{SaysNothing, IsDamageOf};
+ghost use Rattle.vault.specs.Opened.{IsFoundIn, IsOfOpening, IsSoundFound, IfHasGeneration};
+ghost use Rattle.vault.specs.declared.error.VaultError.TheVariants.{Device};
 
 use crate::VaultError;
 use disk::Side;
@@ -32,8 +31,8 @@ pub(crate) fn found_in(alloc: Global, side: Side, bytes: Vec<u8>) -> Result<Foun
     ensures found { IfOk result (IsFoundIn side bytes.items) }
     ensures kept { IfOk result (λ found. IsFoundIn found.journal.side found.bytes.items found) }
     ensures sound { IfOk result IsSoundFound }
-    ensures nothing { OfGeneration bytes.items (IfErr result (λ error. SaysNothing error → IsNoSide bytes.items)) }
-    ensures cause { OfGeneration bytes.items (IfErr result (λ error. SaysNothing error → IsDamageOf side error)) }
+    ensures nothing { IfHasGeneration bytes.items (IfErr result (λ error. SaysNothing error → IsNoSide bytes.items)) }
+    ensures cause { IfHasGeneration bytes.items (IfErr result (λ error. SaysNothing error → IsDamageOf side error)) }
     ensures others { IfErr result IsOfOpening }
     ensures device { IsErrOf result Device → ⊥ }
 {

@@ -1,12 +1,10 @@
-ghost use Rattle.std.specs.Prelude.{◌≡◌, ◌⊎◌, ◌<◌, ℕ, None, length, IsTrue, IfOk, IfErr, IsErrOf};
+ghost use Rattle.std.specs.Prelude.{◌≡◌, None, length, IsTrue, IfOk, IfErr, IsErrOf};
 ghost use Rattle.disk.specs.Storage.{Errs, Reports, ReportsAs};
 ghost use Rattle.disk.specs.declared.side.Side.{Side};
-ghost use Rattle.disk.specs.declared.side.Side.TheVariants.{A, B};
-ghost use Rattle.disk.specs.Time.{Contents};
+ghost use Rattle.disk.specs.declared.side.Side.TheVariants.{A};
 ghost use Rattle.sides.specs.Reading.{Tells};
-ghost use Rattle.sides.specs.Side.{HasGeneration};
 ghost use Rattle.vault.specs.Store.{SaysNothing};
-ghost use Rattle.vault.specs.Opened.{OnlyReads, IsGenerationOf, IsAhead, AreOfOneGeneration, HeadsFault, StandsForNothing, NoneIsOpen, IsOfOpening, contents_of, SaysCutShort, MeansNothing, ReturnsFault, OfGenerations, ErredOrCutShort};
+ghost use Rattle.vault.specs.Opened.{OnlyReads, IsGenerationOf, IsAhead, HeadsFault, StandsForNothing, IsOfOpening, contents_of, SaysCutShort, MeansNothing, ReturnsFault, ForGenerations, ErredOrCutShort, IfAlike, IsWholeFault};
 ghost use Rattle.vault.specs.declared.error.VaultError.TheVariants.{Device, NoMemory, NotAStore, Damaged};
 
 use crate::VaultError;
@@ -69,13 +67,11 @@ fn head_of<D: Disk>(disk: &mut D, side: Side) -> Result<(Gate, u64), DiskError>
 
 // Of two sides with these generations, `None` if closed, the one that is ahead.
 fn ahead(a: Option<u64>, b: Option<u64>) -> Result<Side, VaultError>
-    ensures ahead { OfGenerations a b (λ contents. IfOk result (IsAhead contents)) }
-    ensures nothing { OfGenerations a b (λ contents. IfErr result (λ _. StandsForNothing contents)) }
-    ensures cause { (contents : Contents) → IsGenerationOf a (contents A) → IsGenerationOf b (contents B)
-        → IfErr result (λ error. ((error ≡ NotAStore) × NoneIsOpen contents) ⊎ ((error ≡ Damaged A 2) × AreOfOneGeneration contents)) }
+    ensures ahead { ForGenerations a b (λ contents. IfOk result (IsAhead contents)) }
+    ensures nothing { ForGenerations a b (λ contents. IfErr result (λ _. StandsForNothing contents)) }
+    ensures cause { ForGenerations a b (λ contents. IfErr result (IsWholeFault contents)) }
     ensures closed { a ≡ None → b ≡ None → IsErrOf result NotAStore }
-    ensures alike { (contents : Contents) → IsGenerationOf a (contents A) → IsGenerationOf b (contents B)
-        → (generation : ℕ) → HasGeneration (contents A) generation → HasGeneration (contents B) generation → IsErrOf result (Damaged A 2) }
+    ensures alike { ForGenerations a b (λ contents. IfAlike contents (IsErrOf result (Damaged A 2))) }
     ensures others { IfErr result IsOfOpening }
     ensures device { IsErrOf result Device → ⊥ }
 {

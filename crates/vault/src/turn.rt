@@ -5,7 +5,6 @@ ghost use Rattle.journal.specs.declared.journal.TheConstants.{LIMIT};
 ghost use Rattle.vault.specs.Calls.{Halts, RefusesTurn, TurnsOver, WritesSide, TurnsStore};
 ghost use Rattle.vault.specs.Store.{IsReady, new_side};
 ghost use Rattle.vault.specs.Turned.{Rests, WritesAnew};
-ghost use Rattle.vault.specs.declared.error.VaultError.TheVariants.{Full};
 ghost use Rattle.sides.specs.declared.gate.TheConstants.{FORMAT};
 
 use crate::gates::{other, write_side};
