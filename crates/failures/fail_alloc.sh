@@ -87,6 +87,10 @@ all_of() {
     : >kinds
     at=1
     while "$3" "$1" "$at" "$2 without $1 $at"; do at=$((at + 1)); done
+    if [ "$1:$at" = memory:1 ]; then
+        echo "fail_alloc: $2 made no request for memory that could be refused: is it the program that was proved and built?" >&2
+        exit 1
+    fi
     echo "$2, $((at - 1)) requests ($1):"
     sort kinds | uniq -c
 }
