@@ -7,7 +7,7 @@ use Rattle.graph.specs.Fits.{HasNoFault, IsAbsent}
 use Rattle.instances.specs.declared.state.State.{State}
 use Rattle.instances.specs.declared.state.State.TheVariants.{Ready, Running, Waiting}
 use Rattle.instances.specs.declared.ticket.Ticket.{Ticket}
-use Rattle.instances.specs.Tickets.{HandsOutAndTells}
+use Rattle.instances.specs.Tickets.{HandsOut}
 use Rattle.steplang.specs.Running.{Asking}
 use Rattle.machine.specs.Machine.{HasItem}
 use Rattle.machine.specs.Machine as machine
@@ -92,7 +92,7 @@ pub record Claims {D : Type 0} (old new : Core D) (at : ℕ) (result : Result (O
 -- ticket is added: the core is halted, or memory was refused.
 pub record TakesTickets {D : Type 0} (old new : Core D) (before after : ℕ) (had has : List Ticket) (result : Result Bool CoreError) : Type 0 where
   pub same : new ≡ old
-  pub ok : IfOk result (λ over. (is_halted old ≡ false) × HandsOutAndTells old.machine.memory.instances before after had has over)
+  pub ok : IfOk result (λ over. (is_halted old ≡ false) × HandsOut old.machine.memory.instances before after had has × ((over ≡ true) ↔ (after ≡ 2 ^ 64)))
   pub none : OnErr result ((after ≡ before) × (has ≡ had))
   pub err : IfErr result (λ error. ((is_halted old ≡ true) × (error ≡ Store Halted)) ⊎ ((is_halted old ≡ false) × (error ≡ Store NoMemory)))
 

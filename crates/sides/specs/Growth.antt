@@ -44,7 +44,7 @@ AllPutsFit g X puts = AllByRecursion (PutIsOf g) puts × AreNew X puts
 
 -- an instance may end with these puts
 abbrev pub EndFits : Graph → Facts → Inst → List Put → Type 0
-EndFits g X instance puts = MayEnd g X instance × AllPutsFit g X puts
+EndFits g X instance puts = MayEnd g X instance × AllByRecursion (PutIsOf g) puts × AreNew X puts
 
 -- what is held grows by the end of an instance with these puts
 abbrev pub GrowsByEnd : Inst → List Put → Holdings → Holdings → Type 0

@@ -117,4 +117,4 @@ IsDamageOf side error = (place : ℕ) × (error ≡ Damaged side place)
 
 -- the error says that the files stand for nothing
 abbrev pub SaysNothing : VaultError → Type 0
-SaysNothing error = (error ≡ NotAStore) ⊎ ((side : Side) × IsDamageOf side error)
+SaysNothing error = (error ≡ NotAStore) ⊎ ((side : Side) × (place : ℕ) × (error ≡ Damaged side place))
