@@ -1,5 +1,5 @@
 -- Instances that are claimed, parked and given back.
-use Rattle.std.specs.Prelude.{◌≡◌, ◌⊎◌, ◌<◌, ◌≤◌, ◌-◌, ◌^◌, min, max, ℕ, Bool, false, true, List, Option, None, Some, Result, Ok, IfOk, IfErr, IfSome, IsSome, IsErrOf, OnOk, OnErr}
+use Rattle.std.specs.Prelude.{◌≡◌, ◌⊎◌, ◌↔◌, ◌<◌, ◌≤◌, ◌-◌, ◌^◌, min, max, ℕ, Bool, false, true, List, Option, None, Some, Result, Ok, IfOk, IfErr, IfSome, IsSome, IsErrOf, OnOk, OnErr}
 use Rattle.terms.specs.declared.name.Addr.{Addr}
 use Rattle.terms.specs.declared.name.Inst.{Inst}
 use Rattle.terms.specs.declared.put.Put.{Put}
