@@ -155,8 +155,8 @@ impl Pace {
     }
 
     /// Whether the worker, whose body waits, gives back what it has claimed: if its bodies of late do not take long, others run something, and it is not to let this instance wait, since it has waited for others in vain. `own` is the number of instances that
-    /// it has claimed and not committed, and `running` that of all instances that run. Then it goes on once others have committed. If it went on now, one instance after another might wait, and each would be woken and run anew. If it does so once more before a body
-    /// has ended, it sleeps meanwhile, unless its bodies are light: then one worker leads.
+    /// it has claimed and not committed, and `running` that of all instances that run. Then it goes on once others have committed. If it went on now, one instance after another might wait, and each would be woken and run anew. Meanwhile it sleeps, unless its bodies
+    /// are light: then one worker leads.
     pub(crate) fn leaves(&mut self, own: usize, running: usize) -> bool {
         if self.work >= SHARED_WORK || running <= own {
             return false;
@@ -166,7 +166,7 @@ impl Pace {
             return false;
         }
         self.waits = true;
-        self.rests = self.left && self.work >= HEAVY_WORK;
+        self.rests = self.work >= HEAVY_WORK;
         self.left = true;
         true
     }
