@@ -1,5 +1,5 @@
 -- The keys of a queue, some of which were handed out: what is taken out, and what only moves.
-use Rattle.std.proofs.Common.{◌≡◌, ◌<◌, ap, sym, subst, ℕ, ℤ, List, [], ◌∷◌, ◌++◌, length, get_or, Option, Some, None, IsSome, OnSome, append_assoc}
+use Rattle.std.proofs.Common.{◌≡◌, ◌<◌, sym, subst, ℕ, ℤ, List, [], ◌∷◌, ◌++◌, length, get_or, Option, Some, None, IsSome, OnSome, append_assoc}
 use mathlib.Core.Bool.{false≢true}
 use Rattle.std.specs.List.{remove}
 use Rattle.std.specs.List.Sorted.{IsPermutation}

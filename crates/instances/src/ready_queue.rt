@@ -1,4 +1,7 @@
-ghost use Rattle.std.specs.Prelude.{◌≡◌, ◌<◌, IfSome, get_or, length};
+ghost use Rattle.std.specs.Prelude.{◌≡◌, ◌<◌, ◌≤◌, IfSome, get_or, length};
+ghost use Rattle.std.specs.List.Sorted.{IsPermutation};
+ghost use Rattle.std.specs.VecDeque.{deque_capacity};
+ghost use Rattle.instances.specs.declared.ready_queue.TheConstants.{PASSED};
 
 use crate::queue_order::QueueOrder;
 use std::alloc::{AllocError, Global};
@@ -6,10 +9,13 @@ use std::collections::VecDeque;
 use std::mem;
 use terms::Key;
 
+// Behind how many smaller keys at the front of the queue a key is put, at most.
+const PASSED: usize = 64;
+
 /// The keys of the ready instances of a step. Some were handed out under the numbers of tickets.
 ///
-/// A new one goes to the end of the queue, and one that already ran goes to its front. So they run in about the order in which they came, whether they had to wait
-/// or not; but if many have to wait, those that are ready are put in the order of their keys: where several workers run the steps that put the tags,
+/// A new one goes to the end of the queue, and one that already ran goes to its front, behind smaller ones that stand there. So they run in about the order in which they
+/// came, whether they had to wait or not; but if many have to wait, those that are ready are put in the order of their keys: where several workers run the steps that put the tags,
 /// these come out of order, and an instance often needs what one with a smaller key puts. No promise is made about that order.
 #[derive(Drop)]
 pub(crate) struct ReadyQueue {
@@ -80,6 +86,17 @@ impl ReadyQueue {
     {
         self.order.note(Some(&key), self.queued.front());
         self.queued.push_front_reserved(key);
+    }
+
+    /// Puts a key in front, behind the smaller ones that stand there, up to `PASSED` of them.
+    pub(crate) fn put_in_order(&mut self, key: Key)
+        requires { length (keys self.old) < capacity self.old }
+        ensures keys { IsPermutation (key ∷ keys self.old) (keys self.new) }
+        ensures capacity { capacity self.new ≡ capacity self.old }
+    {
+        self.queued.push_front_reserved(key);
+        let place = pass_smaller(&mut self.queued, &key);
+        self.order.note(Some(&key), self.queued.get(place + 1));
     }
 
     /// Takes out the key with this number: those that were handed out come last.
@@ -173,6 +190,22 @@ impl ReadyQueue {
             self.queued = VecDeque::from_vec(keys);
         }
     }
+}
+
+// Moves the first key, which is this one, behind the smaller ones after it, up to `PASSED` of them. Returns its place.
+fn pass_smaller(queued: &mut VecDeque<Key>, key: &Key) -> usize
+    ensures place { result ≤ PASSED }
+    ensures keys { IsPermutation queued.old.items queued.new.items }
+    ensures capacity { deque_capacity queued.new ≡ deque_capacity queued.old }
+{
+    for place in 0..PASSED {
+        let next = place + 1;
+        if next >= queued.len() || !queued[next].cmp(key).is_lt() {
+            return place;
+        }
+        queued.swap(place, next);
+    }
+    PASSED
 }
 
 // The place at which a key was handed out under this number, if it was.

@@ -265,7 +265,7 @@ impl StepInstances {
         ensures { Moves self.old self.new key Ready }
     {
         self.states.set(key, Standing::Ready);
-        self.ready.put_first(key);
+        self.ready.put_in_order(key);
         self.running -= 1;
     }
 
@@ -275,7 +275,7 @@ impl StepInstances {
         ensures { Moves self.old self.new key Ready }
     {
         self.states.wake(key);
-        self.ready.put_first(key);
+        self.ready.put_in_order(key);
         self.waiting -= 1;
     }
 }
