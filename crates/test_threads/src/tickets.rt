@@ -140,7 +140,7 @@ fn stopped<J: Naming, D: Disk, R: Handles>(
     hub: &Hub<J, D>,
     worker: &mut WorkPass<J>,
 ) -> Result<(), Error> {
-    let (other, one) = two(rt, hub, worker)?;
+    let (one, other) = two(rt, hub, worker)?;
     let Some(task) = claimed(rt, hub, worker, one)? else {
         bail!("a new ticket gave nothing")
     };
