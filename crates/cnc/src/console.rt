@@ -1,22 +1,10 @@
 //! The error output on a terminal, and the text at which it points.
+use crate::pointing::{Place, point};
 use crate::progress::{Certifying, clear};
 use cli::Errors;
 use std::io::{self, Eprint, Read, Stderr, Write};
 use std::sync::atomic::AtomicU64;
 use std::time::Clock;
-
-// How many characters of a line are shown before the caret at most, and how many in all.
-const MOST_BEFORE: usize = 60;
-
-const MOST_SHOWN: usize = 120;
-
-/// Where a fault is, and what is wrong there: the line and the column, from 1; column 0 if only the line is known.
-#[derive(Clone, Copy)]
-pub(crate) struct Place {
-    line: usize,
-    column: usize,
-    hint: &'static str,
-}
 
 // What a terminal takes for the begin of a text in red, and for its end.
 const RED: &[u8] = b"\x1b[31m";
@@ -120,27 +108,9 @@ impl<'a, R: Read> Kept<'a, R> {
         }
     }
 
-    /// Prints the line of a place, and below it a caret and what is wrong. The caret is under the column or, if that is
-    /// not known, under the first character that is not blank. Of a long line only the part near the caret is printed.
+    /// Shows the line of a place, and what is wrong there.
     pub(crate) fn point(&self, place: Place) {
-        let Place { line, column, hint } = place;
-        let text = str::from_utf8(self.text.as_slice()).unwrap_or("");
-        let Some(line) = text.split('\n').nth(line.saturating_sub(1)) else {
-            return;
-        };
-        let blanks = line.len() - line.trim_start().len();
-        let column = if column == 0 { blanks } else { column - 1 };
-        let left_out = column.saturating_sub(MOST_BEFORE);
-        let _ = write!(self.rt.stderr(), "  ");
-        for letter in line.chars().skip(left_out).take(MOST_SHOWN) {
-            let _ = write!(self.rt.stderr(), "{letter}");
-        }
-        let _ = write!(self.rt.stderr(), "\n  ");
-        for letter in line.chars().skip(left_out).take(column - left_out) {
-            let blank = if letter == '\t' { "\t" } else { " " };
-            let _ = write!(self.rt.stderr(), "{blank}");
-        }
-        let _ = writeln!(self.rt.stderr(), "^ {hint}");
+        point(&mut self.rt.stderr(), self.text.as_slice(), place);
     }
 }
 

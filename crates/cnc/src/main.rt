@@ -5,6 +5,7 @@ ghost use Rattle.cli.specs.Words.{IsInRange};
 
 mod console;
 mod opening_bar;
+mod pointing;
 mod progress;
 
 use clap::Error;
