@@ -1,1 +1,2 @@
+mod Ascii
 mod Kept

@@ -49,7 +49,7 @@ fn tell(
     }
 }
 
-#[tactic(auto, using(syntax::proofs::Runs::ascii_text))]
+#[tactic(auto, using(crate::proofs::Ascii::ascii_text))]
 fn tell_tokens(alloc: Global, text: &str, out: &mut String) -> Result<(), AllocError> {
     if !text.is_ascii() {
         return out.push_str("not ASCII\n");
