@@ -1,5 +1,5 @@
 -- What a call with a batch promises: several ends of instances that are committed together.
-use Rattle.std.specs.Prelude.{◌≡◌, ◌≤◌, ◌+◌, ⊤, ℕ, List, Option, Some, None, Result, Ok, Err, IfOk, IfErr, OnOk}
+use Rattle.std.specs.Prelude.{◌≡◌, ◌≤◌, ◌+◌, ⊤, ℕ, List, Result, Ok, Err, IfErr}
 use Rattle.disk.specs.declared.storage.Disk.{Ghosts}
 use Rattle.terms.specs.declared.name.Inst.{Inst}
 use Rattle.terms.specs.declared.event.Event.{Event}
@@ -15,7 +15,6 @@ use Rattle.commit.specs.declared.error.CoreError.{CoreError}
 use Rattle.commit.specs.declared.error.CoreError.TheVariants.{Refused, Store}
 use Rattle.commit.specs.Batch.{Batch, EndsAll, ends_said}
 use Rattle.commit.specs.Calls.{commit_length}
-use Rattle.commit.specs.Core.{Core}
 use Rattle.hub.specs.declared.error.BatchError.{BatchError}
 use Rattle.hub.specs.declared.error.BatchError.TheVariants as batch_error
 use Rattle.hub.specs.Kept.{Kept}

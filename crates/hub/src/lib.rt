@@ -10,6 +10,7 @@
 
 mod both;
 mod close;
+mod counting;
 mod crossing;
 mod error;
 mod glance;
