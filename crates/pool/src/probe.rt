@@ -1,3 +1,4 @@
+use machine::Counts;
 use std::marker::Sync;
 use terms::Inst;
 
@@ -6,6 +7,8 @@ use terms::Inst;
 pub enum Answer {
     /// Run the instance.
     Go,
+    /// Call `counted`, and then run the instance.
+    Count,
     /// Give the instance back, and end all workers.
     Stop,
 }
@@ -22,6 +25,10 @@ pub trait Probe: Sync {
     /// Says whether this instance is to be run now.
     fn enter(&self, instance: Inst) -> Answer
         ensures { result ≡ Stop → may_stop ≡ true };
+
+    /// Is told how much the store held a moment ago, after it answered `Count`. It takes the lock of the store to count, so
+    /// a probe answers so now and then alone. What workers have not committed yet is not among it.
+    fn counted(&self, _counts: Counts) {}
 }
 
 /// A probe that always answers `Go`.

@@ -1,5 +1,5 @@
 //! How a worker runs an instance, and what it does with the result.
-ghost use Rattle.std.specs.Prelude.{◌≡◌, Some, true};
+ghost use Rattle.std.specs.Prelude.{◌≡◌, Some, false, true};
 ghost use mathlib.Core.List.{IsPrefix};
 ghost use Rattle.graph.specs.Fits.{InstanceIsOf};
 ghost use Rattle.commit.specs.Batch.{HaveOutcomes, facts_with};
@@ -25,7 +25,7 @@ use passes::Naming;
 use std::alloc::Global;
 use std::sync::Wait;
 use steplang::Run;
-use terms::{facts_are_told_apart, facts_go_on};
+use terms::{Inst, facts_are_told_apart, facts_go_on};
 
 /// Runs one instance.
 pub(crate) fn run_task<'a, J: Naming, D: Disk, P: Probe, R: Wait>(
@@ -48,14 +48,37 @@ pub(crate) fn run_task<'a, J: Naming, D: Disk, P: Probe, R: Wait>(
     facts_are_told_apart();
     facts_go_on();
     results_are_meant();
-    if probe.enter(task.inst()) == Answer::Stop {
-        // Before the task is given back, so that no worker runs it meanwhile.
-        hub.ask_stop(pass);
+    if !may_run(rt, hub, pass, probe, task.inst()) {
         return gives_up(rt, hub, pass, hand, task, Met::Asked, kept);
     }
     match hand.waiting.take(pass, &task.inst()) {
         Some(run) => go_on(rt, alloc, hub, pass, hand, task, run, kept),
         None => begin(rt, alloc, hub, pass, hand, task, kept),
+    }
+}
+
+// Asks the probe whether an instance is to be run, and shows it how much the store holds, if it wants to know. If it answers `Stop`, all workers are asked to
+// end, before the instance is given back, so that none runs it meanwhile.
+fn may_run<J: Naming, D: Disk, P: Probe, R: Wait>(
+    rt: &R,
+    hub: &Hub<J, D>,
+    pass: &mut WorkPass<J>,
+    probe: &P,
+    instance: Inst,
+) -> bool
+    ensures ahead { IsPrefix pass.old.seen pass.new.seen }
+    ensures asked { result ≡ false → P.may_stop ≡ true }
+{
+    match probe.enter(instance) {
+        Answer::Go => true,
+        Answer::Count => {
+            probe.counted(hub.counts(rt, pass));
+            true
+        }
+        Answer::Stop => {
+            hub.ask_stop(pass);
+            false
+        }
     }
 }
 
