@@ -1,4 +1,5 @@
 //! The progress of a run, and of a certificate, shown on a terminal.
+use machine::Counts;
 use pool::{Answer, Probe};
 use std::io::{self, Eprint, Write};
 use std::marker::Sync;
@@ -6,8 +7,11 @@ use std::sync::atomic::{AtomicU64, Ordering};
 use std::time::{Clock, Instant};
 use terms::Inst;
 
-// How many instances are run, or verified, between two looks at the clock.
+// How many instances are run, or verified, between two looks at the clock, at most.
 const BETWEEN: u64 = 64;
+
+// If fewer milliseconds pass between two looks, more instances are run before the next.
+const SHORT: u64 = 10;
 
 // The milliseconds since a moment; 0 if the clock fails.
 pub(crate) fn milliseconds_since<R: Clock>(rt: &R, moment: &Option<Instant>) -> u64 {
@@ -27,8 +31,8 @@ pub(crate) fn clear<R: Eprint>(rt: &R, shown: &AtomicU64) {
     }
 }
 
-/// Counts how often an instance is run. It prints the count, the number of workers, and the number in a second since the
-/// first: at most once a second, and only at every 64th.
+/// Shows how far a run is: how many of the steps that are prescribed so far are done, the number of workers, and how many
+/// instances were run in a second since the first. It prints at most once a second.
 #[derive(Drop)]
 pub(crate) struct Telling<'a, R> {
     rt: &'a R,
@@ -37,6 +41,10 @@ pub(crate) struct Telling<'a, R> {
     // The milliseconds from `made` to the first instance that ran.
     first: AtomicU64,
     ran: AtomicU64,
+    // When it looks at the clock: at this one of those that ran, so many after the one before, and these milliseconds after `made`.
+    next: AtomicU64,
+    between: AtomicU64,
+    looked: AtomicU64,
     // The second of the run in which the progress was printed last.
     told: AtomicU64,
     // Whether the progress stands on the screen: 0 or 1.
@@ -51,29 +59,37 @@ impl<'a, R: Clock + Eprint> Telling<'a, R> {
             made: Instant::now(rt).ok(),
             first: AtomicU64::new(0),
             ran: AtomicU64::new(0),
+            next: AtomicU64::new(1),
+            between: AtomicU64::new(1),
+            looked: AtomicU64::new(0),
             told: AtomicU64::new(0),
             shown,
         }
     }
 
-    // The milliseconds since it was made.
-    fn milliseconds(&self) -> u64 {
-        milliseconds_since(self.rt, &self.made)
+    // Looks at the clock, and says whether a second has passed since the progress was printed.
+    fn is_due(&self, ran: u64) -> bool {
+        let now = milliseconds_since(self.rt, &self.made);
+        if ran == 1 {
+            self.first.store(now, Ordering::Relaxed);
+        }
+        self.set_next(ran, now);
+        let seconds = now.saturating_sub(self.first.load(Ordering::Relaxed)) / 1000;
+        self.told.fetch_max(seconds, Ordering::Relaxed) < seconds
     }
 
-    // Prints the progress of the run, once a second.
-    fn tell(&self, ran: u64) {
-        let first = self.first.load(Ordering::Relaxed);
-        let seconds = self.milliseconds().saturating_sub(first) / 1000;
-        let before = self.told.fetch_max(seconds, Ordering::Relaxed);
-        if seconds > before {
-            let workers = self.workers;
-            let rate = ran / seconds;
-            let _ = eprint!(self.rt;
-                "\r{ran} steps ran, {workers} at a time, {rate} a second\u{1b}[K"
-            );
-            self.shown.store(1, Ordering::Relaxed);
-        }
+    // Chooses at which instance it looks at the clock again.
+    fn set_next(&self, ran: u64, now: u64) {
+        let passed = now.saturating_sub(self.looked.swap(now, Ordering::Relaxed));
+        let before = self.between.load(Ordering::Relaxed);
+        let between = if passed < SHORT {
+            before.saturating_mul(2).min(BETWEEN)
+        } else {
+            before.div_ceil(2)
+        };
+        self.between.store(between, Ordering::Relaxed);
+        self.next
+            .store(ran.saturating_add(between), Ordering::Relaxed);
     }
 }
 
@@ -84,12 +100,27 @@ impl<'a, R: Clock + Eprint + Sync> Probe for Telling<'a, R> {
 
     fn enter(&self, _instance: Inst) -> Answer {
         let ran = self.ran.fetch_add(1, Ordering::Relaxed).wrapping_add(1);
-        if ran == 1 {
-            self.first.store(self.milliseconds(), Ordering::Relaxed);
-        } else if ran % BETWEEN == 0 {
-            self.tell(ran);
+        if ran >= self.next.load(Ordering::Relaxed) && self.is_due(ran) {
+            Answer::Count
+        } else {
+            Answer::Go
         }
-        Answer::Go
+    }
+
+    fn counted(&self, counts: Counts) {
+        let Counts {
+            items: _,
+            tags: _,
+            prescribed,
+            done,
+        } = counts;
+        let workers = self.workers;
+        let seconds = self.told.load(Ordering::Relaxed).max(1);
+        let rate = self.ran.load(Ordering::Relaxed) / seconds;
+        let _ = eprint!(self.rt;
+            "\r{done} of {prescribed} steps done, {workers} at a time, {rate} a second\u{1b}[K"
+        );
+        self.shown.store(1, Ordering::Relaxed);
     }
 }
 
