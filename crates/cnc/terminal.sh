@@ -1,5 +1,6 @@
 #!/bin/sh
-# What a terminal shows of a fault: the line, with bytes that no terminal shows as escapes and with marks where it was cut, a caret, and a few words.
+# What a terminal shows of a fault: the line, with bytes that no terminal shows as escapes and with marks where it was cut, a caret, and a few words; and
+# what it says of a store that is refused.
 #
 # usage: terminal.sh CNC
 # It needs `script`, of util-linux, which makes a terminal.
@@ -106,4 +107,29 @@ in_graph "$(printf '%70s' '')[a i]; $(printf '%70s' '')[b];\n"
     printf '%65s^ no graph goes on so\n' ''
 } >long
 compare 'a long line' <long
+
+# refused WORD..: the same of a command whose store, or file, is refused: one line
+refused() {
+    shown "$@" | sed -n '1p' >found
+}
+
+refused create nowhere other
+compare 'a file that is not there' <<'R'
+  No such file or directory (os error 2)
+R
+refused create graph store
+compare 'a store that is there' <<'R'
+  A file of a store is there already. Use another directory, or `cnc run` with this one.
+R
+mkdir empty
+refused report empty
+compare 'an empty directory' <<'R'
+  Neither file holds a whole store: none was made, `create` was cut off, or a file was changed.
+R
+cp -r store changed
+printf '\377' | dd of=changed/A bs=1 seek=30 conv=notrunc 2>dd
+refused report changed
+compare 'a file that was changed' <<'R'
+  From this byte on the file is not as it was written.
+R
 echo "$tried lines of a terminal are right"

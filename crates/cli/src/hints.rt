@@ -2,6 +2,10 @@
 use graph::GraphError;
 use script::ScriptFault;
 use steptree::CheckError;
+use vault::VaultError;
+
+/// The hint where a limit of a graph is passed.
+pub const LIMIT_PASSED: &str = "a limit is passed";
 
 /// What is wrong at a place of a graph.
 pub(crate) fn graph_hint(error: GraphError) -> &'static str {
@@ -15,7 +19,7 @@ pub(crate) fn graph_hint(error: GraphError) -> &'static str {
         GraphError::TwoPrescribers => "a tag starts this step already",
         GraphError::StepMissing => "this step has no text",
         GraphError::StepTwice => "this step has a text already",
-        GraphError::TooLarge => "a limit is passed",
+        GraphError::TooLarge => LIMIT_PASSED,
         GraphError::Check(error) => body_hint(error),
         GraphError::NoMemory => "memory was refused",
     }
@@ -40,5 +44,20 @@ pub(crate) fn script_hint(fault: ScriptFault) -> &'static str {
         ScriptFault::UnknownName => "no collection of this kind has the name",
         ScriptFault::Arity => "the key has another number of components",
         ScriptFault::TooLarge => "the script is too large",
+    }
+}
+
+/// What is wrong with a store that is refused, if its text leaves that open.
+pub(crate) fn store_hint(error: &VaultError) -> Option<&'static str> {
+    match error {
+        VaultError::NotAStore => Some(
+            "Neither file holds a whole store: none was made, `create` was cut off, or a file was changed.",
+        ),
+        VaultError::Exists => Some(
+            "A file of a store is there already. Use another directory, or `cnc run` with this one.",
+        ),
+        VaultError::Damaged(..) => { Some("From this byte on the file is not as it was written.") }
+        VaultError::Full => Some("What the store holds takes more than 1 GiB."),
+        VaultError::Halted | VaultError::Device | VaultError::NoMemory => None,
     }
 }

@@ -14,6 +14,7 @@ mod past;
 mod verifying;
 mod words;
 
+pub use hints::LIMIT_PASSED;
 pub use obeying::{Errors, obey};
 pub use outcome::{Failure, Left, Outcome};
 pub use words::{Command, MOST_LIMIT, collect_words, read_words, usage_status};

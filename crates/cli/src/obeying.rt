@@ -10,7 +10,7 @@ ghost use Rattle.cli.specs.declared.outcome.Failure.TheVariants as failure;
 ghost use Rattle.cli.specs.declared.outcome.Outcome.{Outcome as Came};
 ghost use Rattle.cli.specs.declared.outcome.Outcome.TheVariants.{Created, Failed};
 
-use crate::hints::{graph_hint, script_hint};
+use crate::hints::{graph_hint, script_hint, store_hint};
 use crate::logging::log;
 use crate::outcome::NamedFailure;
 use crate::past::report_at;
@@ -37,7 +37,7 @@ pub trait Errors: Write {
     /// only the line is known; and what is wrong there, in a few words.
     fn point(&mut self, line: usize, column: usize, hint: &'static str);
 
-    /// Whether a person reads it, who is told what is wrong in a store that is not verified.
+    /// Whether a person reads it, who is told what is wrong in a store that is refused or not verified.
     fn explains(&self) -> bool;
 
     /// One more instance was verified, of the `done` ones that are finished.
@@ -117,7 +117,15 @@ fn tell<E: Errors>(failure: &Failure, input: &str, err: &mut E) {
     match failure {
         Failure::Graph(fault) => err.point(fault.line, fault.column, graph_hint(fault.error)),
         Failure::Script(line, fault) => err.point(*line, 0, script_hint(*fault)),
+        Failure::Store(error) if err.explains() => explain_refusal(error, err),
         _ => {}
+    }
+}
+
+// Says to a person what is wrong with a store that is refused.
+fn explain_refusal<E: Errors>(error: &VaultError, err: &mut E) {
+    if let Some(hint) = store_hint(error) {
+        let _ = writeln!(err, "  {hint}");
     }
 }
 

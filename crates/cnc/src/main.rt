@@ -92,8 +92,12 @@ fn with_input<H: Handles>(rt: &HostRuntime, threads: &H, command: &Command<'_>) 
         "-" => with_disk(rt, threads, command, &mut rt.stdin()),
         _ => match File::open(rt, path) {
             Ok(mut file) => with_disk(rt, threads, command, &mut file),
-            Err(_) => {
-                let _ = writeln!(rt.stderr(), "cannot read {path}");
+            Err(error) => {
+                let mut err = rt.stderr();
+                let _ = writeln!(err, "cannot read {path}");
+                if err.is_terminal() {
+                    let _ = writeln!(err, "  {error}");
+                }
                 CANNOT_READ
             }
         },

@@ -1,20 +1,14 @@
 //! The place of a fault in a text that was read, shown on a terminal.
+use cli::LIMIT_PASSED;
+use graph::MOST_TEXT;
+use script::MOST_BYTES;
 use std::io::{Stderr, Write};
+use syntax::MOST_NAME_BYTES;
 
 // How many letters of a line are shown before the caret at most, and how many in all.
 const MOST_BEFORE: usize = 60;
 
 const MOST_SHOWN: usize = 120;
-
-// How many bytes a graph and a script may have, and a name in a graph.
-const MOST_OF_GRAPH: usize = 65_536;
-
-const MOST_OF_SCRIPT: usize = 1_048_576;
-
-const MOST_OF_NAME: usize = 32;
-
-// What `cli` says where a limit of a graph is passed.
-const LIMIT: &str = "a limit is passed";
 
 /// Where a fault is, and what is wrong there: the line and the column, from 1; column 0 if only the line is known, as in a script.
 #[derive(Clone, Copy)]
@@ -147,7 +141,7 @@ fn line_of(text: &[u8], number: usize) -> Option<&[u8]> {
 
 // Where a line of a script is wrong, and why: at a byte that no line has, or where something else stands than a number; else at its first byte that is no blank.
 fn in_script(text: &[u8], line: &[u8], place: Place) -> (usize, &'static str) {
-    if text.len() > MOST_OF_SCRIPT {
+    if text.len() > MOST_BYTES {
         return (0, "a script has at most 1,048,576 bytes");
     }
     let mut last = b' ';
@@ -199,7 +193,7 @@ fn in_graph(text: &[u8], line: &[u8], place: Place) -> (usize, &'static str) {
     let column = place.column.saturating_sub(1);
     let rest = line.get(column..).unwrap_or(&[]);
     let hint = match rest.first() {
-        _ if place.hint == LIMIT => limit_at(text, rest, place.hint),
+        _ if place.hint == LIMIT_PASSED => limit_at(text, rest, place.hint),
         Some(b'#') => "there are no comments",
         Some(b'&' | b'|') => "comparisons are numbers: multiply or add them",
         _ => place.hint,
@@ -209,7 +203,7 @@ fn in_graph(text: &[u8], line: &[u8], place: Place) -> (usize, &'static str) {
 
 // Which limit is passed where the rest of a line begins.
 fn limit_at(text: &[u8], rest: &[u8], hint: &'static str) -> &'static str {
-    if text.len() > MOST_OF_GRAPH {
+    if text.len() > MOST_TEXT {
         return "a graph has at most 65,536 bytes";
     }
     let name = rest.iter().take_while(|byte| is_of_name(**byte)).count();
@@ -217,7 +211,7 @@ fn limit_at(text: &[u8], rest: &[u8], hint: &'static str) -> &'static str {
         Some(b'{') => "at most 16 braces may be open",
         Some(b'(') => "at most 64 brackets may be open, and 64 operations stand one in another",
         Some(b'0'..=b'9' | b'-') => "at most 64 operations stand one in another",
-        Some(_) if name > MOST_OF_NAME => "a name has at most 32 bytes",
+        Some(_) if name > MOST_NAME_BYTES => "a name has at most 32 bytes",
         Some(_) if name > 0 => {
             "at most 64 collections of a kind, steps or names of a step, and 4 components"
         }
