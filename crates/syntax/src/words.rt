@@ -10,18 +10,18 @@ pub fn reserved_word(text: &str) -> Option<Word>
     ensures { MatchOption result ((kept : Word) → text.now ≢ word_text kept)
         (λ kept. text.now ≡ word_text kept) }
 {
-    match text {
-        "env" => Some(Word::Env),
-        "step" => Some(Word::Step),
-        "var" => Some(Word::Var),
-        "read" => Some(Word::Read),
-        "write" => Some(Word::Write),
-        "get" => Some(Word::Get),
-        "put" => Some(Word::Put),
-        "if" => Some(Word::If),
-        "else" => Some(Word::Else),
-        "for" => Some(Word::For),
-        "in" => Some(Word::In),
+    match text.as_bytes() {
+        b"if" => Some(Word::If),
+        b"in" => Some(Word::In),
+        b"env" => Some(Word::Env),
+        b"var" => Some(Word::Var),
+        b"get" => Some(Word::Get),
+        b"put" => Some(Word::Put),
+        b"for" => Some(Word::For),
+        b"step" => Some(Word::Step),
+        b"read" => Some(Word::Read),
+        b"else" => Some(Word::Else),
+        b"write" => Some(Word::Write),
         _ => None,
     }
 }
