@@ -39,7 +39,6 @@ pub mod Returned
 pub mod Runs
 pub mod Signs
 pub mod Spelled
-pub mod StatementParts
 pub mod StatementSteps
 pub mod StepParts
 pub mod Stopping

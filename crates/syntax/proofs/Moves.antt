@@ -58,6 +58,12 @@ reads_on {expected} {more} {last} others {one} {two} {before} {middle} {after} f
   goes = goes_on expected more others last before middle after first.goes second.goes;
 }
 
+-- where nothing more is expected of the first part
+infixl 6 ◌⨟◌
+pub ◌⨟◌ : {expected rest last : List Expected} {one two : List Piece} {before middle after : List Spot} → Reads expected [] one before middle → Reads rest last two middle after
+    → Reads (expected ++ rest) last (one ++ two) before after
+◌⨟◌ {expected} {rest} {last} {one} {two} {before} {middle} {after} first second = reads_on rest first second
+
 pub stops_on : (expected more others : List Expected) (before middle after : List Spot) (cause : Stop) → Goes expected more before middle → Stops (more ++ others) middle after cause
     → Stops (expected ++ others) before after cause
 stops_on expected more others before middle after cause first second behind =

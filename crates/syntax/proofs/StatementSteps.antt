@@ -1,24 +1,63 @@
 -- A statement, and the statements after it.
-use Rattle.std.proofs.Common.{◌≡◌, ℕ, List, [], ◌∷◌, ◌++◌, drop, refl, sym, ap, subst, ◌∙◌, append_assoc}
+use Rattle.std.proofs.Common.{◌≡◌, ℕ, List, [], ◌∷◌, ◌++◌, drop, refl, sym, ap, subst, ◌∙◌, append_assoc, Some, None}
 use Rattle.std.specs.List.{flat_map}
-use Rattle.steptree.specs.Tree.{NamedBlock, joined}
+use Rattle.std.proofs.lemmas.List.{append-nil}
+use Rattle.steptree.specs.declared.step.Name.{Name}
+use Rattle.steptree.specs.Tree.{NamedBlock, NamedExpression, joined}
 use Rattle.steptree.specs.Tree as block
+use Rattle.syntax.specs.declared.part.Beginning.{Beginning}
+use Rattle.syntax.specs.declared.part.Beginning.TheVariants as beginning
 use Rattle.syntax.specs.declared.stop.Stop.{Stop}
 use Rattle.syntax.specs.declared.token.Word.{Word}
 use Rattle.syntax.specs.declared.token.Word.TheVariants as kept
 use Rattle.syntax.specs.Tokens.{name, word, Spot}
-use Rattle.syntax.specs.Grammar.{Position, Statement, own, assigned, if_alone, if_else, for, put_item, put_tag}
+use Rattle.syntax.specs.Grammar.{Position, Expr, Statement, own, assigned, if_alone, if_else, for, Put, put_item, put_tag}
 use Rattle.syntax.specs.Limits.{name_limits, statement_limits, statements_limits}
-use Rattle.syntax.specs.Spelled.{statement_pieces, statements_pieces}
+use Rattle.syntax.specs.Spelled.{plain, a_word, in_braces_at, condition_pieces, put_pieces, statement_pieces, statements_pieces}
 use Rattle.syntax.specs.Tree.{IsStatement, AreStatements, AreAll}
-use Rattle.syntax.specs.Expected.{Part, reading, writing, Expected, a_name, keyword, statements, look, taken, within, Next, met, next, followed, run}
+use Rattle.syntax.specs.Expected.{Part, reading, writing, Expected, a_name, keyword, statements, or_else, look, taken, within, Next, met, next, followed, run}
 use Rattle.syntax.specs.Front.{front_of}
-use Rattle.syntax.specs.Blocks.{assignment_rest}
-use Rattle.syntax.specs.Parsed.{Spells, Goes, Reads, Tells, Stops}
-use Rattle.syntax.specs.Statements.{Own, own_word, own_rest, own_pieces, own_limits, is_own, assignment_expected, choice_expected, repetition_expected, own_expected, IsFirst, IsStatementRead, NoneBegins, statements_of, StatementsSoFar, AreRead}
-use Rattle.syntax.proofs.Moves.{took, reads_on}
+use Rattle.syntax.specs.Blocks.{assignment_rest, IsAssignment}
+use Rattle.syntax.specs.Parsed.{Spells, Goes, Reads, Tells, Stops, named_of}
+use Rattle.syntax.specs.Statements.{Own, own_rest, own_pieces, own_limits, is_own, Begins, assignment_expected, choice_expected, repetition_expected, own_expected, IsFirst, IsStatementRead, IsChoiceRead}
+use Rattle.syntax.specs.Statements.{IsConditionRead, IsNestedRead, Second, second_pieces, second_limits, IsSecond, IsSecondRead, NoneBegins, statements_of, StatementsSoFar, AreRead}
+use Rattle.syntax.proofs.Moves.{◌⨟◌, took, reads_on}
 use Rattle.syntax.proofs.Forward.{known}
 use Rattle.syntax.proofs.KeyParts.{flat_more, all_more}
+
+-- ---- parts of a statement
+
+pub assigned_is : (part : Part) (variable : Name) (expr : Expr) (tree rest : NamedBlock) → IsAssignment variable expr tree rest → IsStatement (is_own part) (assigned (named_of variable) expr) tree (λ other. other ≡ rest)
+assigned_is part variable expr (block.Assign other value behind) rest is =
+    ((ap (λ (it : Name). it.text.now) is.0, ap (λ (it : Name). it.place) is.0), is.1, is.2)
+assigned_is part variable expr _ rest is = absurd is
+
+pub behind_put : (put : Put) → plain (word kept.Put) ∷ drop 1 (put_pieces put) ≡ put_pieces put
+behind_put (put_item item value) = refl
+behind_put (put_tag tag) = refl
+
+-- a choice, with a second block or none
+pub choice_read : {part : Part} {around : ℕ} {value : NamedExpression} {one two first_tree second_tree other : NamedBlock} {before middle three four after : List Spot} → first_tree ≡ one → second_tree ≡ two
+    → Reads (keyword kept.If ∷ []) [] (a_word kept.If) before middle → IsConditionRead value middle three
+    → IsNestedRead part around one three four → IsSecondRead part around two four after → IsChoiceRead part around (block.If value first_tree second_tree other) before after
+choice_read {part} {around} {value} {one} {two} {first_tree} {second_tree} {other} {before} {middle} {three} {four} {after} one_is two_is begins condition first last = by last.second last.reads last.is last.within
+  where
+    by : (second : Second part) → Reads (or_else part around ∷ []) [] (second_pieces part second) four after → IsSecond part second two → second_limits part around second ≡ []
+        → IsChoiceRead part around (block.If value first_tree second_tree other) before after
+    by None reads is none = record {
+      statement = if_alone condition.expr first.position first.block;
+      reads = simp append-nil at (begins ⨟ condition.reads ⨟ first.reads ⨟ reads);
+      is = λ rest. rw (one_is, two_is) (condition.is, first.are, is, refl);
+      within = rw condition.within first.within;
+    }
+    by (Some second) reads is none = record {
+      statement = if_else condition.expr first.position first.block second.0 second.1;
+      reads = subst (λ pieces. Reads (choice_expected part around) [] pieces before after)
+          (sym (append_assoc (condition_pieces condition.expr ++ in_braces_at first.position (statements_pieces (own_pieces part) first.block)) (a_word kept.Else)
+          (in_braces_at second.0 (statements_pieces (own_pieces part) second.1)))) (begins ⨟ condition.reads ⨟ first.reads ⨟ reads);
+      is = λ rest. rw (one_is, two_is) (condition.is, first.are, is, refl);
+      within = rw (condition.within, first.within) none;
+    }
 
 -- ---- what a statement begins with
 
@@ -30,7 +69,7 @@ same_limits : (limits : List Position) (more rest : List Expected) (one two : Ne
 same_limits [] more rest one two = refl
 same_limits (place ∷ limits) more rest one two = refl
 
-pub assignment_begins : (part : Part) (around : ℕ) (spots : List Spot) (text : List ℕ) → (front_of spots).0 ≡ name text → MayBegin part around assignment_expected spots
+assignment_begins : (part : Part) (around : ℕ) (spots : List Spot) (text : List ℕ) → (front_of spots).0 ≡ name text → MayBegin part around assignment_expected spots
 assignment_begins part around [] text is behind = cc
 assignment_begins part around (spot ∷ spots) text is behind =
     let expected = assignment_rest ++ statements part around ∷ [] in
@@ -49,35 +88,42 @@ word_begins part around it more spots is looks takes behind =
     took (statements part around) (more ++ statements part around ∷ []) behind spots there (ap (λ lexeme. look (statements part around) lexeme (front_of spots).1) is ∙ looks)
     ∙ sym (took (keyword it) [] ((more ++ statements part around ∷ []) ++ behind) spots there (ap (λ lexeme. look (keyword it) lexeme (front_of spots).1) is ∙ takes))
 
-pub choice_begins : (part : Part) (around : ℕ) (spots : List Spot) → (front_of spots).0 ≡ word kept.If → MayBegin part around (choice_expected part around) spots
-choice_begins reading around spots is = word_begins reading around kept.If (drop 1 (choice_expected reading around)) spots is refl refl
-choice_begins writing around spots is = word_begins writing around kept.If (drop 1 (choice_expected writing around)) spots is refl refl
+-- what is expected of a statement that begins so
+abbrev pub expected_of : Part → ℕ → Beginning → List Expected
+expected_of part around beginning.Assignment = assignment_expected
+expected_of part around beginning.Choice = choice_expected part around
+expected_of part around beginning.Repetition = repetition_expected part around
+expected_of part around beginning.Own = own_expected part
+expected_of part around beginning.Other = []
 
-pub repetition_begins : (part : Part) (around : ℕ) (spots : List Spot) → (front_of spots).0 ≡ word kept.For → MayBegin part around (repetition_expected part around) spots
-repetition_begins reading around spots is = word_begins reading around kept.For (drop 1 (repetition_expected reading around)) spots is refl refl
-repetition_begins writing around spots is = word_begins writing around kept.For (drop 1 (repetition_expected writing around)) spots is refl refl
+pub may_begin : (part : Part) (around : ℕ) (it : Beginning) (spots : List Spot) → Begins part (front_of spots).0 it → MayBegin part around (expected_of part around it) spots
+may_begin part around beginning.Assignment spots is = assignment_begins part around spots is.0 is.1
+may_begin reading around beginning.Choice spots is = word_begins reading around kept.If (drop 1 (choice_expected reading around)) spots is refl refl
+may_begin reading around beginning.Repetition spots is = word_begins reading around kept.For (drop 1 (repetition_expected reading around)) spots is refl refl
+may_begin reading around beginning.Own spots is = word_begins reading around kept.Get (own_rest reading) spots is refl refl
+may_begin part around beginning.Choice spots is = word_begins part around kept.If (drop 1 (choice_expected part around)) spots is refl refl
+may_begin part around beginning.Repetition spots is = word_begins part around kept.For (drop 1 (repetition_expected part around)) spots is refl refl
+may_begin part around beginning.Own spots is = word_begins part around kept.Put (own_rest part) spots is refl refl
+may_begin part around beginning.Other spots is = λ behind. refl
 
-pub own_begins : (part : Part) (around : ℕ) (spots : List Spot) → (front_of spots).0 ≡ word (own_word part) → MayBegin part around (own_expected part) spots
-own_begins reading around spots is = word_begins reading around kept.Get (own_rest reading) spots is refl refl
-own_begins writing around spots is = word_begins writing around kept.Put (own_rest writing) spots is refl refl
+same_run : (part : Part) (around : ℕ) (it : Beginning) (behind : List Expected) (before : List Spot) → Begins part (front_of before).0 it
+    → run (statements part around ∷ behind) before ≡ run (expected_of part around it ++ (statements part around ∷ behind)) before
+same_run part around it behind before begins =
+    may_begin part around it before begins behind ∙ ap (λ stack. run stack before) (append_assoc (expected_of part around it) (statements part around ∷ []) behind)
 
-same_run : (part : Part) (around : ℕ) (expected behind : List Expected) (before : List Spot) → MayBegin part around expected before
-    → run (statements part around ∷ behind) before ≡ run (expected ++ (statements part around ∷ behind)) before
-same_run part around expected behind before begins = begins behind ∙ ap (λ stack. run stack before) (append_assoc expected (statements part around ∷ []) behind)
-
-pub one_statement : (part : Part) (around : ℕ) (expected : List Expected) (tree : NamedBlock) (before after : List Spot) → MayBegin part around expected before
-    → IsStatementRead part around expected [] tree before after → IsStatementRead part around (statements part around ∷ []) (statements part around ∷ []) tree before after
-one_statement part around expected tree before after begins read = record {
+pub one_statement : {part : Part} {around : ℕ} {tree : NamedBlock} {before after : List Spot} (it : Beginning) → Begins part (front_of before).0 it
+    → IsStatementRead part around (expected_of part around it) [] tree before after → IsStatementRead part around (statements part around ∷ []) (statements part around ∷ []) tree before after
+one_statement {part} {around} {tree} {before} {after} it begins read = record {
   statement = read.statement;
-  reads = record { spells = read.reads.spells; goes = λ behind. same_run part around expected behind before begins ∙ read.reads.goes (statements part around ∷ behind) };
+  reads = record { spells = read.reads.spells; goes = λ behind. same_run part around it behind before begins ∙ read.reads.goes (statements part around ∷ behind) };
   is = read.is;
   within = read.within;
 }
 
-pub statement_stops : (part : Part) (around : ℕ) (expected : List Expected) (before after : List Spot) (cause : Stop) → MayBegin part around expected before → Stops expected before after cause
+pub statement_stops : (part : Part) (around : ℕ) (it : Beginning) (before after : List Spot) (cause : Stop) → Begins part (front_of before).0 it → Stops (expected_of part around it) before after cause
     → Stops (statements part around ∷ []) before after cause
-statement_stops part around expected before after cause begins stops behind =
-    subst (Tells cause after) (sym (same_run part around expected behind before begins)) (stops (statements part around ∷ behind))
+statement_stops part around it before after cause begins stops behind =
+    subst (Tells cause after) (sym (same_run part around it behind before begins)) (stops (statements part around ∷ behind))
 
 -- ---- statements one after another
 
