@@ -20,7 +20,7 @@ pub mod JudgedExpressions
 pub mod JudgedFillings
 pub mod KeyParts
 pub mod LeftOut
-pub mod ListParts
+pub mod Lists
 pub mod Lost
 pub mod Moves
 pub mod NameParts

@@ -17,7 +17,7 @@ use Rattle.syntax.specs.Parsed.{Spells, Reads}
 use Rattle.syntax.specs.Relations.{IsRelationRest}
 use Rattle.syntax.specs.Declarations.{IsDeclarationRest, AreDeclared, ArePreamble}
 use Rattle.syntax.proofs.Moves.{spelled_on}
-use Rattle.syntax.proofs.KeyParts.{flat_more, all_more}
+use Rattle.syntax.proofs.Lists.{flat_more, flat_none, all_more}
 
 -- one more after those
 spelled_more : {X : Type 0} (pieces : X → List Piece) (read : List X) (one : X) (rest : List Piece) (start now after : List Spot) → pieces one ≡ rest
@@ -79,7 +79,7 @@ one_related {more} {others} {declared} {related} {start} {now} tree after so_far
       declarations = so_far.declarations;
       relations = all_more IsRelation so_far.related related one.relation tree so_far.relations one.is;
       declarations_within = so_far.declarations_within;
-      relations_within = flat_more relation_limits so_far.related one.relation ∙ ap (λ limits. limits ++ relation_limits one.relation) so_far.relations_within ∙ one.within;
+      relations_within = flat_none relation_limits so_far.related one.relation so_far.relations_within one.within;
     }
 
 -- ---- how many are declared

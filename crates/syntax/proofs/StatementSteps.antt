@@ -23,7 +23,7 @@ use Rattle.syntax.specs.Statements.{Own, own_rest, own_pieces, own_limits, is_ow
 use Rattle.syntax.specs.Statements.{IsConditionRead, IsNestedRead, Second, second_pieces, second_limits, IsSecond, IsSecondRead, NoneBegins, statements_of, StatementsSoFar, AreRead}
 use Rattle.syntax.proofs.Moves.{◌⨟◌, took, reads_on}
 use Rattle.syntax.proofs.Forward.{known}
-use Rattle.syntax.proofs.KeyParts.{flat_more, all_more}
+use Rattle.syntax.proofs.Lists.{flat_more, flat_none, all_more}
 
 -- ---- parts of a statement
 
@@ -134,7 +134,7 @@ next_statement part around start now after trees tree so_far one = record {
   reads = subst (λ pieces. Reads (statements part around ∷ []) (statements part around ∷ []) pieces start after) (sym (flat_more (statement_pieces (own_pieces part)) so_far.read one.statement))
       (reads_on [] so_far.reads one.reads);
   are = all_more (IsFirst part) so_far.read trees one.statement tree so_far.are one.is;
-  within = flat_more (statement_limits (own_limits part) around) so_far.read one.statement ∙ ap (λ limits. limits ++ statement_limits (own_limits part) around one.statement) so_far.within ∙ one.within;
+  within = flat_none (statement_limits (own_limits part) around) so_far.read one.statement so_far.within one.within;
 }
 
 all_pieces : (part : Part) (read : List (Statement (Own part))) → flat_map (statement_pieces (own_pieces part)) read ≡ statements_pieces (own_pieces part) (statements_of read)

@@ -1,8 +1,8 @@
 -- The parts of a step, and steps one after another.
-use Rattle.std.proofs.Common.{◌≡◌, ◌<◌, ◌≤◌, ◌+◌, ◌-◌, ℕ, suc, List, [], ◌∷◌, ◌++◌, length, Bool, true, false, drop, map, refl, sym, ap, subst, ◌∙◌, arith, append_assoc, length-append}
+use Rattle.std.proofs.Common.{◌≡◌, ◌<◌, ◌≤◌, ◌+◌, ◌-◌, ℕ, suc, List, [], ◌∷◌, ◌++◌, length, Bool, true, false, drop, refl, sym, ap, subst, ◌∙◌, arith, append_assoc, length-append}
 use Rattle.std.specs.List.{flat_map}
 use Rattle.std.proofs.lemmas.Grind.{flat_map-append}
-use Rattle.std.proofs.lemmas.List.{append-nil, drop_all}
+use Rattle.std.proofs.lemmas.List.{append-nil}
 use Rattle.terms.specs.declared.key.TheConstants.{MAX_COMPONENTS}
 use Rattle.steptree.specs.declared.slot.TheConstants.{MOST_NAMES}
 use Rattle.steptree.specs.declared.sheet.TheConstants.{MOST_COLLECTIONS}
@@ -11,8 +11,8 @@ use Rattle.steptree.specs.declared.step.Step.{Step}
 use Rattle.syntax.specs.declared.token.Word.TheVariants as kept
 use Rattle.syntax.specs.declared.stop.Stop.{Stop}
 use Rattle.syntax.specs.Tokens.{Spot}
-use Rattle.syntax.specs.Grammar.{Named, StepText}
-use Rattle.syntax.specs.Limits.{one_more, name_limits, names_behind, all_names, get_limits, put_limits, statements_limits, step_limits, steps_limits}
+use Rattle.syntax.specs.Grammar.{StepText}
+use Rattle.syntax.specs.Limits.{one_more, name_limits, all_names, get_limits, put_limits, statements_limits, step_limits, steps_limits}
 use Rattle.syntax.specs.Spelled.{Piece, named, a_word, step_pieces}
 use Rattle.syntax.specs.Tree.{IsName, AreAll, IsStep}
 use Rattle.syntax.specs.Expected.{step_name, step_rest, steps}
@@ -20,7 +20,8 @@ use Rattle.syntax.specs.NameLists.{TakesName, IsFull, StopsAtName}
 use Rattle.syntax.specs.Parsed.{Spells, Goes, Reads, Tells, Stops, TakenIfWord, named_of}
 use Rattle.syntax.specs.Steps.{step_expected, IsStepRead, StepsSoFar, AreStepsRead}
 use Rattle.syntax.proofs.Moves.{spelled_on}
-use Rattle.syntax.proofs.KeyParts.{flat_more, all_more}
+use Rattle.syntax.proofs.Lists.{flat_more, all_more}
+use Rattle.syntax.proofs.NameParts.{none_behind}
 use Rattle.syntax.proofs.Partials.{as_many, few_more}
 use Rattle.syntax.proofs.Covers.{both_none}
 
@@ -35,9 +36,6 @@ name_stops count full before after cause room stops = stops (step_name count) (�
 
 pub body_pieces : (names one read two write end : List Piece) → ((names ++ (one ++ read)) ++ (two ++ write)) ++ end ≡ ((((names ++ one) ++ read) ++ two) ++ write) ++ end
 body_pieces names one read two write end = simp append_assoc
-
-none_behind : (most : ℕ) (names : List Named) → length names ≤ most → names_behind most names ≡ []
-none_behind most names few = ap (map (λ (it : Named). it.1)) (drop_all most names few)
 
 pub step_within : (count : ℕ) (text : StepText) (given declared : List Name) → count < MOST_COLLECTIONS → name_limits text.name ≡ []
     → AreAll IsName (all_names text.parameters) given → length given ≤ MAX_COMPONENTS → flat_map name_limits (all_names text.parameters) ≡ []
