@@ -16,15 +16,10 @@ use Rattle.syntax.proofs.Completed.{Before, before_none, before_all, before_one,
 
 -- the first token is the same, and so are the next `count` ones
 next_alike : (count : ℕ) (spot : Spot) (spots others : List Spot) → take (suc count) others ≡ take (suc count) (spot ∷ spots) → (more : List Spot) × (others ≡ spot ∷ more) × (take count more ≡ take count spots)
-next_alike count spot spots [] same = absurd (cc)
-next_alike count spot spots (first ∷ more) same =
-    let is : first ≡ spot = cc in
-    let behind : take count more ≡ take count spots = cc in
-    (more, ap (λ (it : Spot). it ∷ more) is, behind)
+next_alike count spot spots others same = grind arith
 
 none_alike : (others : List Spot) → take 1 others ≡ [] → others ≡ []
-none_alike [] same = refl
-none_alike (spot ∷ others) same = absurd (cc)
+none_alike others same = grind arith
 
 -- ---- where the machine stops
 
@@ -213,10 +208,7 @@ limited now (spot ∷ spots) place front stuck is = by (next now spot) refl (all
     by (limit_passed other) e (inr lost) told = lost_here now (spot ∷ spots) place front (subst (λ (at : Position). LostAmong at now) (same_place other place told) lost)
 
 told_only : (place : Position) (limits : List Position) (verdict : Verdict) → TellsOnly place verdict → Judged limits verdict accepted → In place limits
-told_only place limits verdict only (goes none same) = absurd (subst (TellsOnly place) same only)
-told_only place limits verdict only (breaks other there same) =
-    let is : other ≡ place = subst (TellsOnly place) same only in
-    subst (λ (it : Position). In it limits) is there
+told_only place limits verdict only given = grind arith
 
 pub found : (place : Position) (places : List Position) → In place places → (i : ℕ) × (slice_get places i ≡ Some place)
 found place [] there = absurd there

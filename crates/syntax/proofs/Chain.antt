@@ -51,8 +51,7 @@ pub blanks_within : (text : List ℕ) (place blanks : ℕ) → blanks ≡ prefix
 blanks_within text place blanks e within = omega (arith, prefix_len-le-length is_blank (drop place text), length-drop place text)
 
 first_is_none : (bytes : List ℕ) → 0 < length bytes → BeginsWithout is_blank bytes → is_blank (get_or bytes 0 0) ≡ false
-first_is_none [] some h = absurd (omega arith)
-first_is_none (first ∷ rest) some h = h
+first_is_none bytes some h = grind arith
 
 pub not_blank : (text here : List ℕ) (place blanks : ℕ) → blanks ≡ prefix_len is_blank (drop place text) → here ≡ drop (place + blanks) text → 0 < length here → is_blank (get_or here 0 0) ≡ false
 not_blank text here place blanks e is some =

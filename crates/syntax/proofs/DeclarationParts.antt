@@ -1,18 +1,15 @@
 -- A declaration from its parts.
-use Rattle.std.proofs.Common.{◌≡◌, ◌≢◌, ℕ, None, List, [], ◌∷◌, ◌++◌, refl, sym, ap, subst, ◌∙◌, append_assoc}
+use Rattle.std.proofs.Common.{◌≡◌, ◌≢◌, ℕ, None, List, [], ◌∷◌, ◌++◌, refl, sym, ap, subst, ◌∙◌, append_assoc, arith}
 use Rattle.steptree.specs.declared.step.Name.{Name}
 use Rattle.syntax.specs.declared.declarations.Front.{Front}
-use Rattle.syntax.specs.declared.declarations.Front.TheVariants as starts
 use Rattle.syntax.specs.declared.stop.Stop.{Stop}
 use Rattle.syntax.specs.declared.token.Symbol.TheVariants as sign
 use Rattle.syntax.specs.declared.tree.Declaration.{Declaration as Declared}
 use Rattle.syntax.specs.declared.tree.Relation.{Relation as Related}
-use Rattle.syntax.specs.Tokens.{Lexeme, symbol, unknown, Spot}
-use Rattle.syntax.specs.Tokens.{name as a_text}
+use Rattle.syntax.specs.Tokens.{Lexeme, symbol, Spot}
 use Rattle.syntax.specs.Grammar.{Position}
-use Rattle.syntax.specs.Limits.{name_limits}
 use Rattle.syntax.specs.Spelled.{Piece, named, a_sign}
-use Rattle.syntax.specs.Expected.{Kind, item, tag, Expected, exactly, a_name, front, front_named, front_closed, relations, closing, look, look_name, within, taken, Next, met, next, ended, followed, run}
+use Rattle.syntax.specs.Expected.{Kind, Expected, exactly, a_name, front, front_named, front_closed, relations, closing, look, look_name, within, taken, Next, met, run}
 use Rattle.syntax.specs.Front.{front_of}
 use Rattle.syntax.specs.Parsed.{Spells, Reads, Tells, Stops, named_of}
 use Rattle.syntax.specs.Relations.{IsRelationRest}
@@ -22,39 +19,28 @@ use Rattle.syntax.proofs.Moves.{spelled_on}
 -- after the name, if no colon comes next: the closing bracket
 named_met : (kind : Kind) (items tags : ℕ) (at place : Position) (lexeme : Lexeme) (behind : List Expected) (without other : Next) → lexeme ≢ symbol sign.Colon
     → met (look (front_named kind items tags at) lexeme place) behind without ≡ met (look (exactly (closing kind)) lexeme place) (front_closed kind items tags at ∷ behind) other
-named_met kind items tags at place (symbol sign.Colon) behind without other no_colon = absurd (no_colon refl)
-named_met item items tags at place _ behind without other no_colon = refl
-named_met tag items tags at place _ behind without other no_colon = refl
+named_met kind items tags at place lexeme behind without other no_colon = grind arith
 
 pub bracket_due : (kind : Kind) (items tags : ℕ) (at : Position) (behind : List Expected) (spots : List Spot) → (front_of spots).0 ≢ symbol sign.Colon
     → run (front_named kind items tags at ∷ behind) spots ≡ run (exactly (closing kind) ∷ front_closed kind items tags at ∷ behind) spots
-bracket_due kind items tags at behind [] no_colon =
-    ap ended (named_met kind items tags at 0 unknown behind (next behind (unknown, 0)) (next (front_closed kind items tags at ∷ behind) (unknown, 0)) no_colon)
-bracket_due kind items tags at behind (spot ∷ spots) no_colon =
-    ap (λ it. followed it (spot ∷ spots) (λ after. run after spots)) (named_met kind items tags at spot.1 spot.0 behind (next behind spot) (next (front_closed kind items tags at ∷ behind) spot) no_colon)
+bracket_due kind items tags at behind spots no_colon = grind arith
 
 -- ---- the name
 
 within_met : (limits : List Position) (one : Expected) (behind : List Expected) (without other : Next) → met (within limits (taken (one ∷ []))) behind without ≡ met (within limits (taken [])) (one ∷ behind) other
-within_met [] one behind without other = refl
-within_met (place ∷ limits) one behind without other = refl
+within_met limits one behind without other = grind arith
 
 name_met : (lexeme : Lexeme) (place : Position) (one : Expected) (behind : List Expected) (without other : Next)
     → met (look_name lexeme place [] (one ∷ [])) behind without ≡ met (look_name lexeme place [] []) (one ∷ behind) other
-name_met (a_text text) place one behind without other = within_met (name_limits (text, place) ++ []) one behind without other
-name_met _ place one behind without other = refl
+name_met lexeme place one behind without other = grind arith
 
 -- a collection's name is a name, and then what follows it
 pub name_due : (kind : Kind) (items tags : ℕ) (behind : List Expected) (spots : List Spot)
     → run (front kind items tags ∷ behind) spots ≡ run (a_name ∷ front_named kind items tags (front_of spots).1 ∷ behind) spots
-name_due kind items tags behind [] = refl
-name_due kind items tags behind (spot ∷ spots) =
-    ap (λ it. followed it (spot ∷ spots) (λ after. run after spots))
-    (name_met spot.0 spot.1 (front_named kind items tags spot.1) behind (next behind spot) (next (front_named kind items tags spot.1 ∷ behind) spot))
+name_due kind items tags behind spots = grind arith
 
 spelled_place : (name : Name) (before after : List Spot) → Spells (named (named_of name) ∷ []) before after → (front_of before).1 ≡ name.place
-spelled_place name [] after spells = absurd spells
-spelled_place name (spot ∷ before) after spells = spells.0.1
+spelled_place name before after spells = grind arith
 
 pub front_name : (kind : Kind) (items tags : ℕ) (name : Name) (before after : List Spot) → Reads (a_name ∷ []) [] (named (named_of name) ∷ []) before after
     → Reads (front kind items tags ∷ []) (front_named kind items tags name.place ∷ []) (named (named_of name) ∷ []) before after
@@ -139,6 +125,4 @@ relation_begun {first} {expected} {more} {piece} {limits} {tree} {before} {middl
 pub front_begun : (it : Front) {first : Expected} {expected : List Expected} {one two : Piece} (items tags : ℕ) {before middle : List Spot} (after : List Spot)
     → Reads (first ∷ []) expected (one ∷ []) before middle → Reads (first ∷ []) expected (two ∷ []) before middle → IsFront expected (one ∷ []) (two ∷ []) items tags it middle after
     → IsFront (first ∷ []) [] [] items tags it before after
-front_begun (starts.Item name count) items tags after plain_one placed read = declaration_begun plain_one read
-front_begun (starts.Tag name count) items tags after plain_one placed read = declaration_begun plain_one read
-front_begun (starts.Relation tree) items tags after plain_one placed read = relation_begun placed read
+front_begun it items tags after plain_one placed read = grind arith

@@ -1,9 +1,8 @@
 -- A worked example of tokens.
-use Rattle.std.proofs.Common.{◌≡◌, ◌≢◌, ℕ, ◌≤◌, ◌+◌, ◌-◌, List, [], ◌∷◌, ◌++◌, length, codes, inl, refl, ap, arith, lit≤, lit<}
+use Rattle.std.proofs.Common.{◌≡◌, ◌≢◌, ℕ, ◌≤◌, ◌+◌, ◌-◌, List, [], ◌∷◌, ◌++◌, length, codes, inl, refl, arith, lit≤, lit<}
 use Rattle.syntax.specs.declared.token.Word.{Word}
-use Rattle.syntax.specs.declared.token.Word.TheVariants as reserved
 use Rattle.syntax.specs.declared.token.Symbol.{Symbol}
-use Rattle.syntax.specs.declared.token.Symbol.TheVariants.{OpenBracket, Colon, DoubleColon, Arrow, DoubleDot, Equal, NotEqual, LessOrEqual, GreaterOrEqual}
+use Rattle.syntax.specs.declared.token.Symbol.TheVariants.{OpenBracket, Colon}
 use Rattle.syntax.specs.Tokens.{AreBlank, AreTokens, Begins, Lexeme, Spot, Stands, TokensExample, name, number, symbol, unknown, symbol_text, word_text}
 
 heads : (c d : ℕ) (r s : List ℕ) → c ∷ r ≡ d ∷ s → c ≡ d
@@ -14,30 +13,15 @@ tails c d r s e = cc
 
 -- no sign that begins with `[` is longer
 open_longest : (rest : List ℕ) (other : Symbol) → Begins (symbol_text other) (91 ∷ rest) → length (symbol_text other) ≤ 1
-open_longest rest DoubleColon h = absurd (omega (arith, heads 91 58 _ _ h.1))
-open_longest rest Arrow h = absurd (omega (arith, heads 91 45 _ _ h.1))
-open_longest rest DoubleDot h = absurd (omega (arith, heads 91 46 _ _ h.1))
-open_longest rest Equal h = absurd (omega (arith, heads 91 61 _ _ h.1))
-open_longest rest NotEqual h = absurd (omega (arith, heads 91 33 _ _ h.1))
-open_longest rest LessOrEqual h = absurd (omega (arith, heads 91 60 _ _ h.1))
-open_longest rest GreaterOrEqual h = absurd (omega (arith, heads 91 62 _ _ h.1))
-open_longest rest _ h = lit≤ tt
+open_longest rest other h = grind arith
 
 -- no sign that begins with `:` before a digit is longer
 colon_longest : (rest : List ℕ) (other : Symbol) → Begins (symbol_text other) (58 ∷ 49 ∷ rest) → length (symbol_text other) ≤ 1
-colon_longest rest DoubleColon h = absurd (omega (arith, heads 49 58 _ _ (tails 58 58 _ _ h.1)))
-colon_longest rest Arrow h = absurd (omega (arith, heads 58 45 _ _ h.1))
-colon_longest rest DoubleDot h = absurd (omega (arith, heads 58 46 _ _ h.1))
-colon_longest rest Equal h = absurd (omega (arith, heads 58 61 _ _ h.1))
-colon_longest rest NotEqual h = absurd (omega (arith, heads 58 33 _ _ h.1))
-colon_longest rest LessOrEqual h = absurd (omega (arith, heads 58 60 _ _ h.1))
-colon_longest rest GreaterOrEqual h = absurd (omega (arith, heads 58 62 _ _ h.1))
-colon_longest rest _ h = lit≤ tt
+colon_longest rest other h = grind arith
 
 -- a word of one letter is not reserved
 is_a_name : (letter : ℕ) (kept : Word) → letter ∷ [] ≢ word_text kept
-is_a_name letter reserved.Env e = omega (arith, ap length e)
-is_a_name letter _ e = omega (arith, ap length e)
+is_a_name letter kept = grind arith
 
 bracket : Stands (symbol OpenBracket) (codes "[x :12") (codes "x :12")
 bracket = (refl, open_longest (codes "x :12"))

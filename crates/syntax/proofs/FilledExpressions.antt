@@ -1,5 +1,5 @@
 -- Fillings of an expression and its parts, from one token to the next.
-use Rattle.std.proofs.Common.{◌≡◌, ◌<◌, true, false, Bool, nat_lt, if◌then◌else◌, rules, List, [], ◌∷◌, ◌++◌, Option, Some, None, refl, sym, ap, subst, ◌∙◌, append_assoc}
+use Rattle.std.proofs.Common.{◌≡◌, ◌<◌, true, false, Bool, nat_lt, if◌then◌else◌, rules, List, [], ◌∷◌, ◌++◌, Option, Some, None, refl, sym, ap, subst, ◌∙◌, append_assoc, arith}
 use Rattle.std.specs.Prelude.{⊤}
 use Rattle.std.proofs.lemmas.List.{append-nil}
 use Rattle.syntax.specs.declared.token.Symbol.{Symbol}
@@ -51,8 +51,7 @@ Goes state spot wrong = ⊤
 Goes state spot (passed place) = state.passed ≡ Some place
 
 goes_broken : (state : Expression) (spot : Spot) (place : Option Position) → state.passed ≡ place → Goes state spot (broken_off place)
-goes_broken state spot None same = tt
-goes_broken state spot (Some place) same = same
+goes_broken state spot place same = grind arith
 
 -- a sign after which an operand comes still
 goes_awaits : (state more : Expression) (it : Symbol) (place : Position) → ((expr : Expr) → Fits (outermost more.level more.outer) expr → Fits (outermost state.level state.outer) expr)

@@ -1,5 +1,5 @@
 -- What comes first in a text that begins with a letter or a digit.
-use Rattle.std.proofs.Common.{◌≡◌, ◌≢◌, ℕ, ℤ, pos, ◌+◌, ◌^◌, ◌<◌, ◌≤◌, Bool, true, ◌||◌, List, [], ◌∷◌, length, get_or, take, drop, Option, Result, Ok, Err, MatchOption, refl, sym, ap, subst, arith, one-add, take-append-drop}
+use Rattle.std.proofs.Common.{◌≡◌, ◌≢◌, ℕ, ℤ, pos, ◌+◌, ◌^◌, ◌<◌, ◌≤◌, Bool, true, ◌||◌, List, [], ◌∷◌, length, get_or, take, drop, Option, Result, MatchOption, refl, sym, ap, subst, arith, one-add, take-append-drop}
 use Rattle.std.specs.Int.{cast_signed, cast_unsigned, w64}
 use Rattle.std.proofs.lemmas.Int.{to_z-of_z}
 use Rattle.std.specs.List.{prefix_len}
@@ -70,8 +70,7 @@ some_length (first ∷ rest) some = omega arith
 
 number_by : {E : Type 0} (length' value : ℕ) (r : Result ℤ E) → 0 < length' → OkIff r ((0 < length') × (value < 2 ^ 63)) (pos value)
     → MatchOption (result_ok r) (GREATEST < value) (λ (found : ℤ). (value ≤ GREATEST) × (found ≡ pos value))
-number_by length' value (Ok found) some h = let k : value < 2 ^ 63 = h.0.1 in (omega arith, h.1)
-number_by length' value (Err error) some h = let k : value < 2 ^ 63 → ⊥ = λ fits. h (some, fits) in omega arith
+number_by length' value r some h = grind arith
 
 pub number_of : {E : Type 0} (digits : List ℕ) (r : Result ℤ E) (o : Option ℤ) → ParsesSigned w64 10 digits r → AreDigits digits → digits ≢ [] → o ≡ result_ok r
     → MatchOption o (GREATEST < digits_value 10 digits) (λ (found : ℤ). (digits_value 10 digits ≤ GREATEST) × (found ≡ pos (digits_value 10 digits)))

@@ -1,8 +1,8 @@
 -- Of the things that may come, only the first one can be an expression that has begun.
-use Rattle.std.proofs.Common.{◌≡◌, ◌⊎◌, inl, inr, true, false, if◌then◌else◌, List, [], ◌∷◌, ◌++◌, refl, sym, ap, subst, ◌∙◌}
+use Rattle.std.proofs.Common.{◌≡◌, ◌⊎◌, inl, inr, true, false, if◌then◌else◌, List, [], ◌∷◌, ◌++◌, refl, sym, ap, subst, ◌∙◌, arith}
 use Rattle.syntax.specs.Tokens.{Spot, unknown}
 use Rattle.syntax.specs.Grammar.{Position}
-use Rattle.syntax.specs.Expected.{Expected, operand, behind_operand, Move, taken, within, look, Next, on, met, next}
+use Rattle.syntax.specs.Expected.{Expected, Move, taken, within, look, Next, on, met, next}
 use Rattle.syntax.proofs.Lost.{IsLost}
 use Rattle.syntax.proofs.Behind.{is_begun, is_expression, chain, chain_rest, chain_on, fresh, fresh_rest}
 use Rattle.syntax.proofs.Turns.{Turn, takes, skips, fails, loses}
@@ -40,9 +40,7 @@ LostAmong place [] = ⊥
 LostAmong place (first ∷ rest) = IsLost place first ⊎ LostAmong place rest
 
 not_lost : (place : Position) (first : Expected) → (if is_begun first then false else true) ≡ true → IsLost place first → ⊥
-not_lost place (operand state) none lost = cc
-not_lost place (behind_operand state prod) none lost = cc
-not_lost place _ none lost = lost.1
+not_lost place first none lost = grind arith
 
 none_lost : (place : Position) (stack : List Expected) → fresh stack ≡ true → BegunInFront stack → LostAmong place stack → ⊥
 none_lost place [] new only lost = lost

@@ -1,5 +1,5 @@
 -- What the machine says of tokens that the grammar derives: it goes on, or a limit is passed at one of their places.
-use Rattle.std.proofs.Common.{◌≡◌, ◌⊎◌, inl, inr, List, [], ◌∷◌, ◌++◌, refl, sym, ap, subst, ◌∙◌}
+use Rattle.std.proofs.Common.{◌≡◌, ◌⊎◌, inl, inr, List, [], ◌∷◌, ◌++◌, refl, sym, ap, subst, ◌∙◌, arith}
 use Rattle.syntax.specs.Tokens.{Spot}
 use Rattle.syntax.specs.Grammar.{Position}
 use Rattle.syntax.specs.Expected.{Expected, taken, within, met, followed, Verdict, too_large}
@@ -40,8 +40,7 @@ judged_among {a} {b} {first} {second} nothing some (goes none same) = goes (noth
 judged_among {a} {b} {first} {second} nothing some (breaks place there is) = breaks place (some place there) is
 
 pub judged_none : {limits : List Position} {first second : Verdict} → limits ≡ [] → Judged limits first second → first ≡ second
-judged_none {limits} {first} {second} none (goes nothing same) = same
-judged_none {limits} {first} {second} none (breaks place there is) = absurd (subst (In place) none there)
+judged_none none given = grind arith
 
 -- ---- one token
 

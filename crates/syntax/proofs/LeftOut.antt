@@ -1,5 +1,5 @@
 -- Before a token that may stand behind it, a thing that spells nothing is left out.
-use Rattle.std.proofs.Common.{◌≡◌, Bool, true, false, if◌then◌else◌, List, [], ◌∷◌, ◌++◌, Some, refl, sym, ap, ◌∙◌}
+use Rattle.std.proofs.Common.{◌≡◌, Bool, true, false, if◌then◌else◌, List, [], ◌∷◌, ◌++◌, Some, refl, sym, ap, ◌∙◌, arith}
 use Rattle.syntax.specs.declared.token.Word.TheVariants as kept
 use Rattle.syntax.specs.declared.token.Symbol.TheVariants as sign
 use Rattle.syntax.specs.Tokens.{Lexeme, word, symbol, unknown, Spot}
@@ -35,17 +35,13 @@ left (variables before) empty is _ place stand = absurd (cc)
 left _ empty is lexeme place stand = absurd (cc)
 
 brace_no_else : (lexeme : Lexeme) → stands a_brace lexeme ≡ true → stands a_statement lexeme ≡ true
-brace_no_else (symbol sign.CloseBrace) stand = refl
-brace_no_else _ stand = absurd (cc)
+brace_no_else lexeme stand = grind arith
 
 bracket_no_comma : (lexeme : Lexeme) → stands a_bracket lexeme ≡ true → stands more_sums lexeme ≡ true
-bracket_no_comma (symbol sign.CloseBracket) stand = refl
-bracket_no_comma (symbol sign.Greater) stand = refl
-bracket_no_comma _ stand = absurd (cc)
+bracket_no_comma lexeme stand = grind arith
 
 is_the_one : (begun other : Bool) → (if begun then false else other) ≡ true → other ≡ true
-is_the_one true other e = absurd (cc)
-is_the_one false other e = e
+is_the_one begun other e = grind arith
 
 -- the first of these pieces is such a token, if there is one
 abbrev opens : Class → List Piece → Bool

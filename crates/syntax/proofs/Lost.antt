@@ -1,12 +1,12 @@
 -- An expression in which a limit is passed, or that is too deep: once it is whole nothing else is reported, whatever tokens come.
-use Rattle.std.proofs.Common.{◌≡◌, ◌≤◌, ◌<◌, true, false, Bool, nat_lt, if◌then◌else◌, List, [], ◌∷◌, length, Option, Some, None, refl, sym, ap, subst, ◌∙◌, arith, rules}
+use Rattle.std.proofs.Common.{◌≡◌, ◌≤◌, ◌<◌, Bool, if◌then◌else◌, List, [], ◌∷◌, length, Option, Some, None, refl, ap, subst, arith}
 use Rattle.std.specs.Prelude.{⊤}
 use Rattle.syntax.specs.declared.limits.TheConstants.{MOST_BRACKETS, MOST_DEPTH}
 use Rattle.syntax.specs.Tokens.{Lexeme, Spot, unknown}
-use Rattle.syntax.specs.Grammar.{Position, Sum, Prod, Unary, literal, variable, bracketed, multiplied, Multiplication, added, Addition, Comparison}
+use Rattle.syntax.specs.Grammar.{Position, Sum, Prod, Unary, literal, variable, multiplied, Multiplication, added, Addition, Comparison}
 use Rattle.syntax.specs.Limits.{one_more, name_limits, expr_depth, sum_depth, prod_depth}
-use Rattle.syntax.specs.Expected.{Comparing, never, possible, behind_left, Level, Expression, level_expr, sum_of, compared_of, product_of, negated_by, product_behind, earlier}
-use Rattle.syntax.specs.Expected.{negating, bracketing, passing, without_product, awaiting_product, awaiting_sum, awaiting_comparison, closed, broken_off, finished}
+use Rattle.syntax.specs.Expected.{Comparing, possible, behind_left, Level, Expression, level_expr, sum_of, compared_of, product_of, negated_by, product_behind, earlier}
+use Rattle.syntax.specs.Expected.{negating, bracketing, passing, without_product, awaiting_product, awaiting_sum, broken_off, finished}
 use Rattle.syntax.specs.Expected.{Joint, by_product, by_sum, by_comparison, closes, ends, joint, Head, minus_sign, open_bracket, a_number, a_variable, no_head, head, look_operand, look_behind, look_end, look_close, look_comparison}
 use Rattle.syntax.specs.Expected.{Expected, operand, behind_operand, Move, taken, left_out, wrong, passed, within, Next, met, followed, ended, Verdict, accepted, syntax, too_large}
 use Rattle.syntax.proofs.Tellings.{Sooner, its_depth, within_it, of_whole, broken, chosen, whole_or_broken, changed, look_so, next_so, run_so}
@@ -24,13 +24,10 @@ EndsDeep level [] prod = MOST_DEPTH < expr_depth (level_expr level prod)
 EndsDeep level (around ∷ outer) prod = WaitsDeep around.0 outer
 
 deeper_sum : (waits : Option (Sum × Addition)) (one two : Prod) → prod_depth one ≤ prod_depth two → sum_depth (sum_of waits one) ≤ sum_depth (sum_of waits two)
-deeper_sum None one two le = le
-deeper_sum (Some it) one two le = omega (arith, le)
+deeper_sum waits one two le = grind arith
 
 deeper_compared : (comparing : Comparing) (one two : Sum) → sum_depth one ≤ sum_depth two → expr_depth (compared_of comparing one) ≤ expr_depth (compared_of comparing two)
-deeper_compared never one two le = le
-deeper_compared possible one two le = le
-deeper_compared (behind_left left how) one two le = omega (arith, le)
+deeper_compared comparing one two le = grind arith
 
 deep_negating : (level : Level) (outer : List (Level × Position)) (negations : List Position) → WaitsDeep level outer → WaitsDeep (record level { negations = negations }) outer
 deep_negating level [] negations deep = deep
@@ -77,8 +74,7 @@ Lost sooner place _ = ⊥
 
 lost_on : {one two : Type 0} (sooner : Sooner) (place : Position) (from to : Expression) → (one → two) → to.first ≡ from.first → (from.passed ≡ Some place → to.passed ≡ Some place) → LostBy sooner place one from
     → LostBy sooner place two to
-lost_on {one} {two} its_depth place from to deep first noted lost = (deep lost.0, first ∙ lost.1)
-lost_on {one} {two} within_it place from to deep first noted lost = noted lost
+lost_on sooner place from to deep first noted lost = grind (arith, deep, noted)
 
 abbrev pub IsLost : Position → Expected → Type 0
 IsLost place first = (sooner : Sooner) × Lost sooner place first
@@ -96,8 +92,7 @@ LostMove sooner place wrong = ⊤
 LostMove sooner place (passed other) = other ≡ place
 
 lost_broken : (sooner : Sooner) (place : Position) (before : Option Position) → LostMove sooner place (changed (broken (of_whole sooner)) (broken_off before))
-lost_broken sooner place None = tt
-lost_broken sooner place (Some other) = tt
+lost_broken sooner place before = grind arith
 
 lost_read : (sooner : Sooner) (place : Position) (state : Expression) (unary : Unary) → Lost sooner place (operand state) → Lost sooner place (behind_operand (without_product state) (product_behind state unary))
 lost_read sooner place state unary lost = lost_on sooner place state (without_product state) (deep_read state.level state.outer unary) refl (λ same. same) lost
@@ -119,41 +114,27 @@ told sooner place deep before first =
     LostMove sooner place (changed (chosen sooner before) (within (if deep then first ∷ [] else []) (elim before [ None ↦ left_out | Some other ↦ passed other ])))
 
 told_within : (deep : Bool) (place first : Position) → told within_it place deep (Some place) first
-told_within true place first = refl
-told_within false place first = refl
+told_within deep place first = grind arith
 
 lost_finished : (sooner : Sooner) (place : Position) (state : Expression) (prod : Prod) → state.outer ≡ [] → Lost sooner place (behind_operand state prod)
     → LostMove sooner place (changed (chosen sooner state.passed) (finished state (level_expr state.level prod)))
-lost_finished its_depth place state prod none lost =
-    let here : MOST_DEPTH < expr_depth (level_expr state.level prod) = subst (λ (outer : List (Level × Position)). EndsDeep state.level outer prod) none lost.0 in
-    let is : nat_lt MOST_DEPTH (expr_depth (level_expr state.level prod)) ≡ true = search (rules, here) in
-    subst (λ (deep : Bool). told its_depth place deep state.passed state.first) (sym is) lost.1
-lost_finished within_it place state prod none lost =
-    let deep = nat_lt MOST_DEPTH (expr_depth (level_expr state.level prod)) in
-    subst (λ (before : Option Position). told within_it place deep before state.first) (sym lost) (told_within deep place state.first)
+lost_finished sooner place state prod none lost = grind arith
 
 lost_inside : (sooner : Sooner) (place : Position) (around : Level × Position) (outer : List (Level × Position)) (before other : Option Position)
     → LostMove sooner place (changed (whole_or_broken (of_whole sooner) (around ∷ outer) before) (broken_off other))
-lost_inside sooner place around outer before None = tt
-lost_inside sooner place around outer before (Some other) = tt
+lost_inside sooner place around outer before other = grind arith
 
 lost_end : (sooner : Sooner) (place : Position) (state : Expression) (outer : List (Level × Position)) (prod : Prod) → state.outer ≡ outer → Lost sooner place (behind_operand state prod)
     → LostMove sooner place (changed (whole_or_broken (of_whole sooner) outer state.passed) (look_end state outer prod))
-lost_end sooner place state [] prod same lost = lost_finished sooner place state prod same lost
-lost_end sooner place state (around ∷ outer) prod same lost = lost_inside sooner place around outer state.passed state.passed
+lost_end sooner place state outer prod same lost = grind arith
 
 lost_close : (sooner : Sooner) (place : Position) (state : Expression) (outer : List (Level × Position)) (prod : Prod) → state.outer ≡ outer → Lost sooner place (behind_operand state prod)
     → LostMove sooner place (changed (whole_or_broken (of_whole sooner) outer state.passed) (look_close state outer prod))
-lost_close sooner place state [] prod same lost = lost_finished sooner place state prod same lost
-lost_close sooner place state (around ∷ outer) prod same lost =
-    lost_read sooner place (closed state around.0 outer) (bracketed around.1 (level_expr state.level prod))
-    (lost_on sooner place state (closed state around.0 outer) (λ (deep : EndsDeep state.level state.outer prod). subst (λ (list : List (Level × Position)). EndsDeep state.level list prod) same deep) refl (λ same. same) lost)
+lost_close sooner place state outer prod same lost = grind arith
 
 lost_comparison : (sooner : Sooner) (place : Position) (state : Expression) (comparing : Comparing) (prod : Prod) (how : Comparison) → state.level.comparing ≡ comparing → Lost sooner place (behind_operand state prod)
     → LostMove sooner place (changed (whole_or_broken (of_whole sooner) state.outer state.passed) (look_comparison state comparing prod how))
-lost_comparison sooner place state never prod how same lost = lost_end sooner place state state.outer prod refl lost
-lost_comparison sooner place state (behind_left left other) prod how same lost = lost_end sooner place state state.outer prod refl lost
-lost_comparison sooner place state possible prod how same lost = lost_on sooner place state (awaiting_comparison state prod how) (deep_comparison state.level state.outer prod how same) refl (λ same. same) lost
+lost_comparison sooner place state comparing prod how same lost = grind arith
 
 lost_behind : (sooner : Sooner) (place : Position) (state : Expression) (prod : Prod) (it : Joint) → Lost sooner place (behind_operand state prod)
     → LostMove sooner place (changed (whole_or_broken (of_whole sooner) state.outer state.passed) (look_behind state prod it))
@@ -177,19 +158,11 @@ TellsOnly place (syntax rest) = ⊤
 TellsOnly place (too_large other) = other ≡ place
 
 at_end : (sooner : Sooner) (place : Position) (move : Move) (rest : List Expected) (without : Next) → LostMove sooner place move → TellsOnly place (ended (met move rest without))
-at_end sooner place (taken more) rest without lost = tt
-at_end sooner place left_out rest without lost = absurd lost
-at_end sooner place wrong rest without lost = tt
-at_end sooner place (passed other) rest without lost = lost
+at_end sooner place move rest without lost = grind arith
 
 at_token : (sooner : Sooner) (place : Position) (move : Move) (rest : List Expected) (without : Next) (here spots : List Spot) → LostMove sooner place move
     → ((first : Expected) → Lost sooner place first → TellsOnly place (run_so (of_whole sooner) (first ∷ rest) spots)) → TellsOnly place (followed (met move rest without) here (λ after. run_so (of_whole sooner) after spots))
-at_token sooner place (taken []) rest without here spots lost later = absurd lost
-at_token sooner place (taken (first ∷ [])) rest without here spots lost later = later first lost
-at_token sooner place (taken (first ∷ second ∷ more)) rest without here spots lost later = absurd lost
-at_token sooner place left_out rest without here spots lost later = absurd lost
-at_token sooner place wrong rest without here spots lost later = tt
-at_token sooner place (passed other) rest without here spots lost later = lost
+at_token sooner place move rest without here spots lost later = grind (arith, later)
 
 pub lost_tells : (spots : List Spot) (sooner : Sooner) (place : Position) (first : Expected) (rest : List Expected) → Lost sooner place first → TellsOnly place (run_so (of_whole sooner) (first ∷ rest) spots)
 lost_tells [] sooner place first rest lost = at_end sooner place (look_so (of_whole sooner) first unknown 0) rest (next_so (of_whole sooner) rest (unknown, 0)) (lost_look sooner place first unknown 0 lost)

@@ -1,5 +1,5 @@
 -- One step of the machine, and one part of the parser after another.
-use Rattle.std.proofs.Common.{◌≡◌, ◌≢◌, ℕ, zero, suc, List, [], ◌∷◌, ◌++◌, refl, sym, ap, subst, ◌∙◌, append_assoc, drop}
+use Rattle.std.proofs.Common.{◌≡◌, ◌≢◌, ℕ, zero, suc, List, [], ◌∷◌, ◌++◌, refl, sym, ap, subst, ◌∙◌, append_assoc, drop, arith}
 use Rattle.syntax.specs.declared.stop.Stop.{Stop}
 use Rattle.syntax.specs.declared.token.Placed.{Placed}
 use Rattle.syntax.specs.Tokens.{Spot, unknown, spots_of}
@@ -12,8 +12,7 @@ use Rattle.syntax.specs.Front.{front_of, behind_front}
 -- the first expected thing takes the next token
 pub took : (first : Expected) (more behind : List Expected) (spots : List Spot) → (front_of spots).0 ≢ unknown → look first (front_of spots).0 (front_of spots).1 ≡ taken more
     → run (first ∷ behind) spots ≡ run (more ++ behind) (behind_front spots)
-took first more behind [] there e = absurd (there refl)
-took first more behind (spot ∷ spots) there e = ap (λ move. followed (met move behind (next behind spot)) (spot ∷ spots) (λ after. run after spots)) e
+took first more behind spots there e = grind arith
 
 -- it is left out
 pub skipped : (first : Expected) (behind : List Expected) (spots : List Spot) → look first (front_of spots).0 (front_of spots).1 ≡ left_out
@@ -24,8 +23,7 @@ skipped first behind (spot ∷ spots) e = ap (λ move. followed (met move behind
 -- the token is at fault
 pub refused : (first : Expected) (behind : List Expected) (spots : List Spot) → look first (front_of spots).0 (front_of spots).1 ≡ wrong
     → run (first ∷ behind) spots ≡ syntax spots
-refused first behind [] e = ap (λ move. ended (met move behind (next behind (unknown, 0)))) e
-refused first behind (spot ∷ spots) e = ap (λ move. followed (met move behind (next behind spot)) (spot ∷ spots) (λ after. run after spots)) e
+refused first behind spots e = grind arith
 
 -- a limit is passed
 pub limited : (first : Expected) (behind : List Expected) (spots : List Spot) (place : Position) → look first (front_of spots).0 (front_of spots).1 ≡ passed place
@@ -36,8 +34,7 @@ limited first behind (spot ∷ spots) place e = ap (λ move. followed (met move 
 -- ---- pieces
 
 pub spelled_one : (piece : Piece) (spots : List Spot) → (front_of spots).0 ≢ unknown → IsPiece piece (front_of spots) → Spells (piece ∷ []) spots (behind_front spots)
-spelled_one piece [] there is = absurd (there refl)
-spelled_one piece (spot ∷ spots) there is = (is, refl)
+spelled_one piece spots there is = grind arith
 
 pub spelled_on : (one two : List Piece) (before middle after : List Spot) → Spells one before middle → Spells two middle after → Spells (one ++ two) before after
 spelled_on [] two before middle after first second = subst (λ spots. Spells two spots after) (sym first) second

@@ -9,7 +9,7 @@ use Rattle.syntax.specs.declared.token.Symbol.{Symbol}
 use Rattle.syntax.specs.declared.token.Symbol.TheVariants as sign
 use Rattle.syntax.specs.declared.token.Word.TheVariants as kept
 use Rattle.syntax.specs.declared.stop.Stop.{Stop}
-use Rattle.syntax.specs.Tokens.{Lexeme, symbol, Spot}
+use Rattle.syntax.specs.Tokens.{Lexeme, Spot}
 use Rattle.syntax.specs.Grammar.{Named}
 use Rattle.syntax.specs.Limits.{name_limits, names_behind, one_more}
 use Rattle.syntax.specs.Spelled.{Piece, named, a_sign, names_pieces}
@@ -48,8 +48,7 @@ none_behind most names few = ap (map (λ (it : Named). it.1)) (drop_all most nam
 
 -- whether there is room for one more
 pub full_names : (most count : ℕ) (full : Bool) → (full ≡ true → most ≤ count) → (full ≡ false → count < most) → IsFull full (λ place. one_more most count place)
-full_names most count true many few = λ place. too_many_more most count place (many refl)
-full_names most count false many few = λ place. few_more most count place (few refl)
+full_names most count full many few = grind (arith, many, few)
 
 -- ---- the names of components
 
@@ -128,10 +127,7 @@ module _ {most : ℕ} {close : Symbol} (list : NameList most close) where
       stops_behind [] after cause it.reads (stops (list.behind_at count) (list.name_at count ∷ []) (list.end count) (list.goes_on count))
 
 pub parameter_goes_on : (count : ℕ) (lexeme : Lexeme) → look_behind_parameter count lexeme ≡ look_on sign.CloseRound (parameter count ∷ []) (exactly sign.OpenBrace ∷ variables count ∷ []) lexeme
-parameter_goes_on count (symbol sign.Comma) = refl
-parameter_goes_on count (symbol sign.CloseRound) = refl
-parameter_goes_on count (symbol it) = refl
-parameter_goes_on count _ = refl
+parameter_goes_on count lexeme = grind arith
 
 abbrev pub parameter_list : NameList MAX_COMPONENTS sign.CloseRound
 parameter_list = record {
@@ -146,10 +142,7 @@ parameter_list = record {
 }
 
 pub variable_goes_on : (count : ℕ) (lexeme : Lexeme) → look_behind_variable count lexeme ≡ look_on sign.Semicolon (step_variable count ∷ []) [] lexeme
-variable_goes_on count (symbol sign.Comma) = refl
-variable_goes_on count (symbol sign.Semicolon) = refl
-variable_goes_on count (symbol it) = refl
-variable_goes_on count _ = refl
+variable_goes_on count lexeme = grind arith
 
 abbrev pub variable_list : (before most : ℕ) → most ≡ MOST_NAMES - before → NameList most sign.Semicolon
 variable_list before most is = record {

@@ -1,5 +1,5 @@
 -- The limits at names one after another, and the limit on their number.
-use Rattle.std.proofs.Common.{◌≡◌, ◌<◌, ◌≤◌, ℕ, zero, suc, Bool, true, false, ◌-◌, arith, rules, List, [], ◌∷◌, ◌++◌, refl, sym, ap, ◌∙◌}
+use Rattle.std.proofs.Common.{◌≡◌, ◌<◌, ◌≤◌, ℕ, suc, Bool, true, false, ◌-◌, arith, rules, List, [], ◌∷◌, ◌++◌, refl, sym, ap, ◌∙◌}
 use Rattle.std.specs.List.{flat_map}
 use Rattle.std.proofs.Math.Dec.{ltb}
 use Rattle.std.proofs.lemmas.Bool.{ltb-false}
@@ -34,8 +34,7 @@ behind_step most before it names = by (ltb before most) refl
         ∙ ap (λ (count : ℕ). one_more most before it.1 ++ names_behind count names) (sym next)
 
 no_names_behind : (most : ℕ) → names_behind most [] ≡ []
-no_names_behind zero = refl
-no_names_behind (suc most) = refl
+no_names_behind most = grind arith
 
 -- the limits of the names, and then the limit on their number
 pub each_covers : (most before : ℕ) (names : List Named) → Covers (each_limits (one_more most) before names) (flat_map name_limits names ++ names_behind (most - before) names)

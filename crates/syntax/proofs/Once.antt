@@ -4,10 +4,9 @@ use Rattle.std.specs.Str.Parse.{digits_value}
 use Rattle.std.proofs.lemmas.Bool.Decides.{nat_tests}
 use Rattle.std.proofs.lemmas.List.{append-nil}
 use Rattle.syntax.specs.declared.token.Symbol.{Symbol}
-use Rattle.syntax.specs.declared.token.Symbol.TheVariants.{OpenBracket}
 use Rattle.syntax.specs.Tokens.{AreBlank, AreDigits, AreTokens, Begins, BeginsNone, BeginsWithout, IsNumeral, IsTooLarge, IsWhole, IsWordText, Lexeme, name, number, word, symbol, unknown, Spot, Stands, is_blank, is_digit, is_letter, word_text, symbol_text}
 use Rattle.syntax.proofs.Runs.{Passes, split_once}
-use Rattle.syntax.proofs.Fronts.{is_word_part, letter_part}
+use Rattle.syntax.proofs.Fronts.{is_word_part}
 use Rattle.syntax.proofs.Spelled.{same_word, same_symbol}
 
 -- ---- the first character
@@ -27,8 +26,7 @@ lead [] = 3
 lead (first ∷ rest) = if is_letter first then 0 else (if is_digit first then 1 else (if is_blank first then 3 else 2))
 
 letter_leads : (text rest bytes : List ℕ) → bytes ≡ text ++ rest → IsWordText text → lead bytes ≡ 0
-letter_leads [] rest bytes e h = absurd h
-letter_leads (first ∷ more) rest bytes e h = ap lead e ∙ ap (λ (b : Bool). if b then 0 else (if is_digit first then 1 else (if is_blank first then 3 else 2))) h.0
+letter_leads text rest bytes e h = grind arith
 
 digit_leads : (digits rest bytes : List ℕ) → bytes ≡ digits ++ rest → digits ≢ [] → AreDigits digits → lead bytes ≡ 1
 digit_leads [] rest bytes e some h = absurd (some refl)
@@ -36,13 +34,10 @@ digit_leads (first ∷ more) rest bytes e some h =
     ap lead e ∙ ap (λ (b : Bool). if b then 0 else (if is_digit first then 1 else (if is_blank first then 3 else 2))) (digit_no_letter first h.0) ∙ ap (λ (b : Bool). if b then 1 else (if is_blank first then 3 else 2)) h.0
 
 sign_leads : (sign : Symbol) (rest : List ℕ) → lead (symbol_text sign ++ rest) ≡ 2
-sign_leads OpenBracket rest = refl
-sign_leads _ rest = refl
+sign_leads sign rest = grind arith
 
 none_leads : (bytes : List ℕ) → BeginsNone bytes → lead bytes ≡ 2
-none_leads [] h = absurd h
-none_leads (first ∷ rest) h =
-    ap (λ (b : Bool). if b then 0 else (if is_digit first then 1 else (if is_blank first then 3 else 2))) h.0 ∙ ap (λ (b : Bool). if b then 1 else (if is_blank first then 3 else 2)) h.1 ∙ ap (λ (b : Bool). if b then 3 else 2) h.2
+none_leads bytes h = grind arith
 
 large_leads : (bytes : List ℕ) → IsTooLarge bytes → lead bytes ≡ 1
 large_leads bytes h = digit_leads h.0 h.1 bytes h.3 h.4.0 h.4.1
@@ -87,8 +82,7 @@ starts lexeme bytes rest stands = by bytes (leads lexeme bytes rest stands).2
 -- ---- the first token
 
 word_passes : (text : List ℕ) → IsWordText text → Passes is_word_part text
-word_passes [] h = absurd h
-word_passes (first ∷ rest) h = (letter_part first h.0, h.1)
+word_passes text h = grind arith
 
 same_texts : (one two r s : List ℕ) → one ++ r ≡ two ++ s → IsWhole one r → IsWhole two s → (one ≡ two) × (r ≡ s)
 same_texts one two r s e h k = split_once is_word_part one two r s (word_passes one h.0) (word_passes two k.0) h.1 k.1 e

@@ -33,9 +33,7 @@ lexeme_in (plain lexeme) = lexeme
 lexeme_in (at position lexeme) = lexeme
 
 pub front_is : (piece : Piece) (pieces : List Piece) (all later : List Spot) → Spells (piece ∷ pieces) all later → (front_of all).0 ≡ lexeme_in piece
-front_is piece pieces [] later spells = absurd spells
-front_is (plain lexeme) pieces (spot ∷ all) later spells = spells.0
-front_is (at position lexeme) pieces (spot ∷ all) later spells = spells.0.0
+front_is piece pieces all later spells = grind arith
 
 -- ---- whole lists of tokens
 

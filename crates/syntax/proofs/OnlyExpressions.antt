@@ -1,5 +1,5 @@
 -- Tokens are at most one expression, before a token that may stand behind one: the machine gives it back.
-use Rattle.std.proofs.Common.{◌≡◌, false, true, List, [], ◌∷◌, Option, Some, None, refl, sym, ap, ◌∙◌}
+use Rattle.std.proofs.Common.{◌≡◌, false, true, List, [], ◌∷◌, Option, Some, None, sym, ap, ◌∙◌, arith}
 use Rattle.syntax.specs.Tokens.{Spot}
 use Rattle.syntax.specs.Grammar.{Position, Expr, sum_alone, prod_alone, unary_alone, literal}
 use Rattle.syntax.specs.Limits.{depth_limits, expr_depth, expr_within}
@@ -30,9 +30,7 @@ until_on stack more spot spots is = ap (λ (after : Next). stopped after (stack,
 -- an expression that is whole stops the machine
 stops : (deep : List Position) (before : Option Position) (here : Stopped) (later : List Expected → Stopped)
     → stopped (met (within deep (elim before [ None ↦ left_out | Some place ↦ passed place ])) [] nothing_left) here later ≡ here
-stops [] None here later = refl
-stops [] (Some place) here later = refl
-stops (place ∷ deep) before here later = refl
+stops deep before here later = grind (arith, later)
 
 -- the expression that the machine holds
 abbrev held : Stopped → Expr

@@ -1,5 +1,5 @@
 -- From one place in an expression to the next.
-use Rattle.std.proofs.Common.{◌≡◌, ◌≢◌, ℕ, List, [], ◌∷◌, ◌++◌, length, refl, sym, ap, ◌∙◌, append_assoc, Option, Some, None}
+use Rattle.std.proofs.Common.{◌≡◌, ◌≢◌, ℕ, List, [], ◌∷◌, ◌++◌, length, refl, sym, ap, ◌∙◌, append_assoc, Option, None, arith}
 use Rattle.std.proofs.lemmas.List.{append-nil}
 use Rattle.syntax.specs.declared.limits.TheConstants.{MOST_BRACKETS}
 use Rattle.syntax.specs.declared.token.Symbol.TheVariants as sign
@@ -7,7 +7,7 @@ use Rattle.syntax.specs.Tokens.{Spot, unknown}
 use Rattle.syntax.specs.Grammar.{Position, Sum, Prod, Unary, negated, bracketed, Multiplication, Addition, Comparison}
 use Rattle.syntax.specs.Spelled.{Piece, IsPiece, a_sign, sign_at, expr_pieces, sum_pieces, prod_pieces, unary_pieces, addition_sign, multiplication_sign, comparison_sign}
 use Rattle.syntax.specs.Limits.{one_more, expr_within, sum_within, prod_within, unary_within}
-use Rattle.syntax.specs.Expected.{Comparing, never, possible, behind_left, Level, Expression, Expected, operand, behind_operand, taken, look, run, earlier, negated_by, product_of, sum_of, compared_of, level_expr, product_behind}
+use Rattle.syntax.specs.Expected.{Comparing, never, possible, Level, Expression, Expected, operand, behind_operand, taken, look, run, earlier, negated_by, product_of, sum_of, compared_of, level_expr, product_behind}
 use Rattle.syntax.specs.Expected.{negating, bracketing, without_product, awaiting_product, awaiting_sum, awaiting_comparison, closed}
 use Rattle.syntax.specs.Front.{front_of, behind_front}
 use Rattle.syntax.specs.Partial.{read_so_far, IsClear, IsSumAlone, Onward, outermost, state_pieces, state_limits, level_limits, sum_limits_before, product_limits_before, comparison_limits_before, minus_pieces, sum_waiting, product_waiting, comparison_waiting}
@@ -32,17 +32,13 @@ negated_pieces [] unary = refl
 negated_pieces (position ∷ positions) unary = negated_pieces positions (negated position unary) ∙ sym (append_assoc (minus_pieces positions) _ _)
 
 pub product_pieces : (waits : Option (Prod × Multiplication)) (unary : Unary) → prod_pieces (product_of waits unary) ≡ product_waiting waits ++ unary_pieces unary
-product_pieces None unary = refl
-product_pieces (Some waits) unary = simp append_assoc
+product_pieces waits unary = grind arith
 
 pub added_pieces : (waits : Option (Sum × Addition)) (prod : Prod) → sum_pieces (sum_of waits prod) ≡ sum_waiting waits ++ prod_pieces prod
-added_pieces None prod = refl
-added_pieces (Some waits) prod = simp append_assoc
+added_pieces waits prod = grind arith
 
 pub compared_pieces : (comparing : Comparing) (sum : Sum) → expr_pieces (compared_of comparing sum) ≡ comparison_waiting comparing ++ sum_pieces sum
-compared_pieces never sum = refl
-compared_pieces possible sum = refl
-compared_pieces (behind_left left how) sum = simp append_assoc
+compared_pieces comparing sum = grind arith
 
 pub negating_pieces : (state : Expression) (place : Position) → state_pieces (negating state place) ≡ state_pieces state ++ sign_at place sign.Minus
 negating_pieces state place = simp append_assoc
@@ -79,26 +75,20 @@ negated_within n [] unary = refl
 negated_within n (position ∷ positions) unary = negated_within n positions (negated position unary)
 
 pub product_within : (n : ℕ) (waits : Option (Prod × Multiplication)) (unary : Unary) → prod_within n (product_of waits unary) ≡ product_limits_before n waits ++ unary_within n unary
-product_within n None unary = refl
-product_within n (Some waits) unary = refl
+product_within n waits unary = grind arith
 
 pub added_within : (n : ℕ) (waits : Option (Sum × Addition)) (prod : Prod) → sum_within n (sum_of waits prod) ≡ sum_limits_before n waits ++ prod_within n prod
-added_within n None prod = refl
-added_within n (Some waits) prod = refl
+added_within n waits prod = grind arith
 
 pub compared_within : (n : ℕ) (comparing : Comparing) (sum : Sum) → expr_within n (compared_of comparing sum) ≡ comparison_limits_before n comparing ++ sum_within n sum
-compared_within n never sum = refl
-compared_within n possible sum = refl
-compared_within n (behind_left left how) sum = refl
+compared_within n comparing sum = grind arith
 
 pub level_within : (n : ℕ) (level : Level) (prod : Prod) → level.product ≡ None → expr_within n (level_expr level prod) ≡ level_limits n level ++ prod_within n prod
 level_within n level prod none = simp (none, compared_within, added_within, append_assoc, append-nil)
 
 -- no limit was passed before, and none is passed now
 pub not_earlier : (passed : Option Position) (places : List Position) → earlier passed places ≡ None → (passed ≡ None) × (places ≡ [])
-not_earlier None [] e = (refl, refl)
-not_earlier None (place ∷ places) e = cc
-not_earlier (Some place) places e = cc
+not_earlier passed places e = grind arith
 
 pub clear_negating : (state : Expression) (place : Position) → IsClear (operand state) → IsClear (operand (negating state place))
 clear_negating state place clear = clear

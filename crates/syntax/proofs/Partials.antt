@@ -1,5 +1,5 @@
 -- What the parser keeps of an expression.
-use Rattle.std.proofs.Common.{◌≡◌, ℕ, ◌≤◌, ◌<◌, suc, true, false, List, [], ◌∷◌, ◌++◌, length, reverse, refl, sym, ap, subst, ◌∙◌, arith, Some, None, if◌then◌else◌, nat_lt, Option, rules, Vec, Global}
+use Rattle.std.proofs.Common.{◌≡◌, ℕ, ◌≤◌, ◌<◌, suc, true, false, List, [], ◌∷◌, ◌++◌, length, reverse, refl, sym, ap, subst, ◌∙◌, arith, if◌then◌else◌, nat_lt, Option, rules, Vec, Global}
 use Rattle.std.proofs.lemmas.List.{reverse-append, length-reverse}
 use Rattle.syntax.specs.declared.limits.TheConstants.{MOST_BRACKETS}
 use Rattle.syntax.specs.declared.partial.Level.{Level as Kept_level}
@@ -32,8 +32,7 @@ pub too_many_more : (most before : ℕ) (place : Position) → most ≤ before �
 too_many_more most before place many = let not_less : nat_lt before most ≡ false = search rules in ap (λ b. if b then [] else place ∷ []) not_less
 
 pub earlier_same : (passed : Option Position) → earlier passed [] ≡ passed
-earlier_same None = refl
-earlier_same (Some place) = refl
+earlier_same passed = grind arith
 
 -- no limit is passed here
 pub not_passed : (state : Expression) (kept : Partial) (places : List Position) → places ≡ [] → IsPartial state kept → IsPartial (passing state places) kept

@@ -1,5 +1,5 @@
 -- A sign is determined by its number.
-use Rattle.std.proofs.Common.{◌≡◌, Bool, true, false, nat_eq, List, [], ◌∷◌, Some, refl, sym, ap, ◌∙◌, slice_get, IsTrue, rules}
+use Rattle.std.proofs.Common.{◌≡◌, Bool, false, nat_eq, List, [], ◌∷◌, Some, sym, ap, ◌∙◌, slice_get, IsTrue, rules, arith}
 use Rattle.syntax.specs.declared.token.Symbol.{Symbol}
 use Rattle.syntax.specs.declared.token.Symbol.TheVariants.{OpenBracket, CloseBracket, OpenRound, CloseRound, Less, Greater, OpenBrace, CloseBrace, Colon, Semicolon, Comma, Assign, Plus, Minus, Star, Slash, Percent, DoubleColon, Arrow, DoubleDot, Equal, NotEqual, LessOrEqual, GreaterOrEqual}
 use Rattle.syntax.specs.Expected.{sign_number}
@@ -8,8 +8,7 @@ abbrev signs : List Symbol
 signs = OpenBracket ∷ CloseBracket ∷ OpenRound ∷ CloseRound ∷ Less ∷ Greater ∷ OpenBrace ∷ CloseBrace ∷ Colon ∷ Semicolon ∷ Comma ∷ Assign ∷ Plus ∷ Minus ∷ Star ∷ Slash ∷ Percent ∷ DoubleColon ∷ Arrow ∷ DoubleDot ∷ Equal ∷ NotEqual ∷ LessOrEqual ∷ GreaterOrEqual ∷ []
 
 sign_found : (sign : Symbol) → slice_get signs (sign_number sign) ≡ Some sign
-sign_found OpenBracket = refl
-sign_found _ = refl
+sign_found sign = grind arith
 
 pub same_number : (one two : Symbol) → sign_number one ≡ sign_number two → one ≡ two
 same_number one two same =
@@ -17,8 +16,7 @@ same_number one two same =
     cc
 
 not_true : (b : Bool) → (IsTrue b → ⊥) → b ≡ false
-not_true true h = absurd (h refl)
-not_true false h = refl
+not_true b h = grind (arith, h)
 
 pub other_number : (one two : Symbol) → (one ≡ two → ⊥) → nat_eq (sign_number one) (sign_number two) ≡ false
 other_number one two other = not_true _ (λ same. other (same_number one two (search (rules, same))))

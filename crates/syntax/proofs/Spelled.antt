@@ -1,5 +1,5 @@
 -- A word and a sign are determined by their texts.
-use Rattle.std.proofs.Common.{◌≡◌, ℕ, ◌+◌, ◌*◌, if◌then◌else◌, ◌==◌, List, [], ◌∷◌, Option, Some, None, refl, sym, ap, ◌∙◌}
+use Rattle.std.proofs.Common.{◌≡◌, ℕ, ◌+◌, ◌*◌, if◌then◌else◌, ◌==◌, List, [], ◌∷◌, Option, Some, None, sym, ap, ◌∙◌, arith}
 use Rattle.syntax.specs.declared.token.Word.{Word}
 use Rattle.syntax.specs.declared.token.Word.TheVariants as reserved
 use Rattle.syntax.specs.declared.token.Symbol.{Symbol}
@@ -23,8 +23,7 @@ abbrev symbols : List Symbol
 symbols = OpenBracket ∷ CloseBracket ∷ OpenRound ∷ CloseRound ∷ Less ∷ Greater ∷ OpenBrace ∷ CloseBrace ∷ Colon ∷ Semicolon ∷ Comma ∷ Assign ∷ Plus ∷ Minus ∷ Star ∷ Slash ∷ Percent ∷ DoubleColon ∷ Arrow ∷ DoubleDot ∷ Equal ∷ NotEqual ∷ LessOrEqual ∷ GreaterOrEqual ∷ []
 
 word_found : (kept : Word) → with_text word_text words (number_of (word_text kept)) ≡ Some kept
-word_found reserved.Env = refl
-word_found _ = refl
+word_found kept = grind arith
 
 pub same_word : (one two : Word) → word_text one ≡ word_text two → one ≡ two
 same_word one two same =
@@ -32,8 +31,7 @@ same_word one two same =
     cc
 
 symbol_found : (sign : Symbol) → with_text symbol_text symbols (number_of (symbol_text sign)) ≡ Some sign
-symbol_found OpenBracket = refl
-symbol_found _ = refl
+symbol_found sign = grind arith
 
 pub same_symbol : (one two : Symbol) → symbol_text one ≡ symbol_text two → one ≡ two
 same_symbol one two same =

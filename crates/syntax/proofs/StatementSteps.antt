@@ -1,5 +1,5 @@
 -- A statement, and the statements after it.
-use Rattle.std.proofs.Common.{◌≡◌, ℕ, List, [], ◌∷◌, ◌++◌, drop, refl, sym, ap, subst, ◌∙◌, append_assoc, Some, None}
+use Rattle.std.proofs.Common.{◌≡◌, ℕ, List, [], ◌∷◌, ◌++◌, drop, refl, sym, ap, subst, ◌∙◌, append_assoc, Some, None, arith}
 use Rattle.std.specs.List.{flat_map}
 use Rattle.std.proofs.lemmas.List.{append-nil}
 use Rattle.steptree.specs.declared.step.Name.{Name}
@@ -12,12 +12,12 @@ use Rattle.syntax.specs.declared.token.Word.{Word}
 use Rattle.syntax.specs.declared.token.Word.TheVariants as kept
 use Rattle.syntax.specs.Tokens.{name, word, Spot}
 use Rattle.syntax.specs.Grammar.{Position, Expr, Statement, own, assigned, if_alone, if_else, for, Put, put_item, put_tag}
-use Rattle.syntax.specs.Limits.{name_limits, statement_limits, statements_limits}
+use Rattle.syntax.specs.Limits.{statement_limits, statements_limits}
 use Rattle.syntax.specs.Spelled.{plain, a_word, in_braces_at, condition_pieces, put_pieces, statement_pieces, statements_pieces}
 use Rattle.syntax.specs.Tree.{IsStatement, AreStatements, AreAll}
-use Rattle.syntax.specs.Expected.{Part, reading, writing, Expected, a_name, keyword, statements, or_else, look, taken, within, Next, met, next, followed, run}
+use Rattle.syntax.specs.Expected.{Part, reading, writing, Expected, keyword, statements, or_else, look, taken, within, Next, met, run}
 use Rattle.syntax.specs.Front.{front_of}
-use Rattle.syntax.specs.Blocks.{assignment_rest, IsAssignment}
+use Rattle.syntax.specs.Blocks.{IsAssignment}
 use Rattle.syntax.specs.Parsed.{Spells, Goes, Reads, Tells, Stops, named_of}
 use Rattle.syntax.specs.Statements.{Own, own_rest, own_pieces, own_limits, is_own, Begins, assignment_expected, choice_expected, repetition_expected, own_expected, IsFirst, IsStatementRead, IsChoiceRead}
 use Rattle.syntax.specs.Statements.{IsConditionRead, IsNestedRead, Second, second_pieces, second_limits, IsSecond, IsSecondRead, NoneBegins, statements_of, StatementsSoFar, AreRead}
@@ -28,13 +28,10 @@ use Rattle.syntax.proofs.Lists.{flat_more, flat_none, all_more}
 -- ---- parts of a statement
 
 pub assigned_is : (part : Part) (variable : Name) (expr : Expr) (tree rest : NamedBlock) → IsAssignment variable expr tree rest → IsStatement (is_own part) (assigned (named_of variable) expr) tree (λ other. other ≡ rest)
-assigned_is part variable expr (block.Assign other value behind) rest is =
-    ((ap (λ (it : Name). it.text.now) is.0, ap (λ (it : Name). it.place) is.0), is.1, is.2)
-assigned_is part variable expr _ rest is = absurd is
+assigned_is part variable expr tree rest is = grind arith
 
 pub behind_put : (put : Put) → plain (word kept.Put) ∷ drop 1 (put_pieces put) ≡ put_pieces put
-behind_put (put_item item value) = refl
-behind_put (put_tag tag) = refl
+behind_put put = grind arith
 
 -- a choice, with a second block or none
 pub choice_read : {part : Part} {around : ℕ} {value : NamedExpression} {one two first_tree second_tree other : NamedBlock} {before middle three four after : List Spot} → first_tree ≡ one → second_tree ≡ two
@@ -66,18 +63,10 @@ abbrev pub MayBegin : Part → ℕ → List Expected → List Spot → Type 0
 MayBegin part around expected spots = Goes (statements part around ∷ []) (expected ++ statements part around ∷ []) spots spots
 
 same_limits : (limits : List Position) (more rest : List Expected) (one two : Next) → met (within limits (taken more)) rest one ≡ met (within (limits ++ []) (taken [])) (more ++ rest) two
-same_limits [] more rest one two = refl
-same_limits (place ∷ limits) more rest one two = refl
+same_limits limits more rest one two = grind arith
 
 assignment_begins : (part : Part) (around : ℕ) (spots : List Spot) (text : List ℕ) → (front_of spots).0 ≡ name text → MayBegin part around assignment_expected spots
-assignment_begins part around [] text is behind = cc
-assignment_begins part around (spot ∷ spots) text is behind =
-    let expected = assignment_rest ++ statements part around ∷ [] in
-    let one = next behind spot in
-    let two = next (expected ++ behind) spot in
-    ap (λ lexeme. followed (met (look (statements part around) lexeme spot.1) behind one) (spot ∷ spots) (λ after. run after spots)) is
-    ∙ ap (λ first. followed first (spot ∷ spots) (λ after. run after spots)) (same_limits (name_limits (text, spot.1)) expected behind one two)
-    ∙ sym (ap (λ lexeme. followed (met (look a_name lexeme spot.1) (expected ++ behind) two) (spot ∷ spots) (λ after. run after spots)) is)
+assignment_begins part around spots text is = grind arith
 
 -- a word that is taken by itself
 word_begins : (part : Part) (around : ℕ) (it : Word) (more : List Expected) (spots : List Spot) → (front_of spots).0 ≡ word it

@@ -1,8 +1,8 @@
 -- The machine, with a choice of which limit of a whole expression it reports, and reporting none of one that breaks off.
-use Rattle.std.proofs.Common.{◌≡◌, false, List, [], ◌∷◌, Option, Some, None, refl, sym, ap, ◌∙◌}
+use Rattle.std.proofs.Common.{◌≡◌, false, List, [], ◌∷◌, Option, Some, None, refl, sym, ap, ◌∙◌, arith}
 use Rattle.syntax.specs.Tokens.{Lexeme, unknown, Spot}
 use Rattle.syntax.specs.Grammar.{Position}
-use Rattle.syntax.specs.Expected.{Level, Expected, whole, operand, behind_operand, Move, taken, left_out, wrong, passed, look, Next, on, nothing_left, at_fault, limit_passed, met, next, Verdict, ended, followed, run}
+use Rattle.syntax.specs.Expected.{Level, Expected, whole, operand, behind_operand, Move, taken, left_out, wrong, passed, look, Next, on, nothing_left, met, next, Verdict, ended, followed, run}
 use Rattle.syntax.proofs.Behind.{is_expression}
 
 -- what is reported sooner of a whole expression that passes both
@@ -62,16 +62,10 @@ run_so telling stack (spot ∷ spots) = followed (next_so telling stack spot) (s
 -- ---- as the machine reports it
 
 same_place : (first : Expected) (place : Position) → instead first as_told place ≡ passed place
-same_place (whole comparing) place = refl
-same_place (operand state) place = refl
-same_place (behind_operand state prod) place = refl
-same_place _ place = refl
+same_place first place = grind arith
 
 same_move : (first : Expected) (move : Move) → changed (instead first as_told) move ≡ move
-same_move first (taken more) = refl
-same_move first left_out = refl
-same_move first wrong = refl
-same_move first (passed place) = same_place first place
+same_move first move = grind arith
 
 same_next : (stack : List Expected) (spot : Spot) → next_so as_told stack spot ≡ next stack spot
 same_next [] spot = refl
@@ -80,10 +74,7 @@ same_next (first ∷ rest) spot =
 
 same_later : (it : Next) (here spots : List Spot) → ((stack : List Expected) → run_so as_told stack spots ≡ run stack spots)
     → followed it here (λ after. run_so as_told after spots) ≡ followed it here (λ after. run after spots)
-same_later (on stack) here spots later = later stack
-same_later nothing_left here spots later = refl
-same_later at_fault here spots later = refl
-same_later (limit_passed place) here spots later = refl
+same_later it here spots later = grind (arith, later)
 
 pub same_run : (spots : List Spot) (stack : List Expected) → run_so as_told stack spots ≡ run stack spots
 same_run [] stack = ap ended (same_next stack (unknown, 0))
@@ -96,10 +87,7 @@ as_the_machine one two first second same = sym (same_run one first) ∙ same ∙
 -- ---- the same tokens are taken
 
 met_on : (change : Position → Move) (move : Move) (rest more : List Expected) (one other : Next) → (one ≡ on more → other ≡ on more) → met move rest one ≡ on more → met (changed change move) rest other ≡ on more
-met_on change (taken others) rest more one other behind is = is
-met_on change left_out rest more one other behind is = behind is
-met_on change wrong rest more one other behind is = absurd (cc)
-met_on change (passed place) rest more one other behind is = absurd (cc)
+met_on change move rest more one other behind is = grind (arith, change, behind)
 
 pub next_on : (telling : Telling) (stack more : List Expected) (spot : Spot) → next stack spot ≡ on more → next_so telling stack spot ≡ on more
 next_on telling [] more spot is = is
@@ -112,13 +100,7 @@ run_on telling stack more spot spots is = ap (λ (it : Next). followed it (spot 
 -- ---- where no expression is expected
 
 unchanged : (move : Move) → changed passed move ≡ move
-unchanged (taken more) = refl
-unchanged left_out = refl
-unchanged wrong = refl
-unchanged (passed place) = refl
+unchanged move = grind arith
 
 pub plain_so : (telling : Telling) (first : Expected) (lexeme : Lexeme) (place : Position) → is_expression first ≡ false → look_so telling first lexeme place ≡ look first lexeme place
-plain_so telling (whole comparing) lexeme place plain = absurd (cc)
-plain_so telling (operand state) lexeme place plain = absurd (cc)
-plain_so telling (behind_operand state prod) lexeme place plain = absurd (cc)
-plain_so telling first lexeme place plain = unchanged (look first lexeme place)
+plain_so telling first lexeme place plain = grind arith

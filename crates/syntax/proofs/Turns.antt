@@ -1,5 +1,5 @@
 -- What a token does with a thing that may come: the move of the machine, and what the fillings become.
-use Rattle.std.proofs.Common.{◌≡◌, ◌==◌, ℕ, Bool, true, false, if◌then◌else◌, List, [], ◌∷◌, ◌++◌, Some, None, refl, sym, ap, append_assoc, slice_get, rules, ◌∙◌}
+use Rattle.std.proofs.Common.{◌≡◌, ◌==◌, ℕ, Bool, true, false, if◌then◌else◌, List, [], ◌∷◌, ◌++◌, Some, None, refl, sym, ap, append_assoc, slice_get, rules, ◌∙◌, arith}
 use Rattle.std.proofs.lemmas.List.{append-nil}
 use Rattle.terms.specs.declared.key.TheConstants.{MAX_COMPONENTS}
 use Rattle.syntax.specs.declared.token.Word.{Word}
@@ -47,8 +47,7 @@ abbrev words : List Word
 words = kept.Env ∷ kept.Step ∷ kept.Var ∷ kept.Read ∷ kept.Write ∷ kept.Get ∷ kept.Put ∷ kept.If ∷ kept.Else ∷ kept.For ∷ kept.In ∷ []
 
 word_found : (it : Word) → slice_get words (word_number it) ≡ Some it
-word_found kept.Env = refl
-word_found _ = refl
+word_found it = grind arith
 
 pub same_word : (it other : Word) → (word_number it == word_number other) ≡ true → word other ≡ word it
 same_word it other same =

@@ -1,5 +1,5 @@
 -- What a token does with declarations, relations and their parts.
-use Rattle.std.proofs.Common.{◌≡◌, ℕ, List, [], ◌∷◌, ◌++◌, Option, Some, None, refl, sym, ap, ◌∙◌, append_assoc}
+use Rattle.std.proofs.Common.{◌≡◌, ℕ, List, [], ◌∷◌, ◌++◌, Option, Some, None, refl, sym, ap, ◌∙◌, append_assoc, arith}
 use Rattle.std.specs.List.{flat_map}
 use Rattle.std.proofs.lemmas.List.{append-nil}
 use Rattle.syntax.specs.declared.token.Word.TheVariants as kept
@@ -70,8 +70,7 @@ turn_relation _ place = skips (record { relations = []; steps = [] }) refl refl
 pub item_spelled : (place : Position) (it : Named) (target : Option Named) (them : RelationsAndSteps)
     → relations_and_steps (one_relation (related_as item place it target) them)
     ≡ at place (symbol sign.OpenBracket) ∷ named it ∷ plain (symbol sign.CloseBracket) ∷ plain (symbol sign.Arrow) ∷ (reader_pieces target ++ (plain (symbol sign.Semicolon) ∷ relations_and_steps them))
-item_spelled place it None them = relation_behind (environment_gets place it) them _ refl
-item_spelled place it (Some step) them = relation_behind (reads place it step) them _ refl
+item_spelled place it target them = grind arith
 
 abbrev pub turn_relations : (lexeme : Lexeme) (place : Position) → Turn relations (lexeme, place) (look relations lexeme place)
 turn_relations (symbol sign.OpenBracket) place =

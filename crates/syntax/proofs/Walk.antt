@@ -2,7 +2,7 @@
 use Rattle.std.proofs.Common.{◌≡◌, ◌≤◌, ℕ, zero, suc, Bool, true, false, List, [], ◌∷◌, ◌++◌, length, Some, refl, sym, ap, subst, ◌∙◌, arith}
 use Rattle.syntax.specs.Tokens.{Lexeme, Spot}
 use Rattle.syntax.specs.Grammar.{Position}
-use Rattle.syntax.specs.Spelled.{Piece, plain, at, IsPiece}
+use Rattle.syntax.specs.Spelled.{Piece, IsPiece}
 use Rattle.syntax.specs.Front.{front_of}
 use Rattle.syntax.specs.Parsed.{Spells}
 use Rattle.syntax.specs.Expected.{Comparing, Expected, whole, operand, behind_operand, Move, taken, left_out, within, look}
@@ -21,8 +21,7 @@ pub may_be_put : (first : Expected) (lexeme : Lexeme) (more : List Expected) →
 may_be_put first lexeme more may = second_of (is_known lexeme) (follows (is_expression first) (class first) more) may
 
 pub taken_not_left : (limits : List Position) (more : List Expected) → within limits (taken more) ≡ left_out → ⊥
-taken_not_left [] more e = cc
-taken_not_left (place ∷ limits) more e = cc
+taken_not_left limits more e = grind arith
 
 -- what the first token of a filling does: it is the same for each filling that begins with it
 pub record Taken {first : Expected} {spot : Spot} {move : Move} (it : Turn first spot move) (filling : Filling first) : Type 0 where
@@ -58,8 +57,7 @@ pub data Opening (first : Expected) (filling : Filling first) (rest : List Expec
   begins : (spot : Spot) (spots : List Spot) → all ≡ spot ∷ spots → By (turn first spot.0 spot.1) filling → Opening first filling rest back all later
 
 by_token : (first : Expected) (filling : Filling first) (piece : Piece) (pieces : List Piece) (spot : Spot) → Unfolds first filling (piece ∷ pieces) → IsPiece piece spot → By (turn first spot.0 spot.1) filling
-by_token first filling (plain lexeme) pieces spot unfolds is = subst (λ (it : Lexeme). By (turn first it spot.1) filling) (sym is) (unfolds spot.1)
-by_token first filling (at place lexeme) pieces spot unfolds is = subst (λ (it : Lexeme). By (turn first it spot.1) filling) (sym is.0) (subst (λ (it : Position). By (turn first lexeme it) filling) (sym is.1) unfolds)
+by_token first filling piece pieces spot unfolds is = grind arith
 
 opening_by : (first : Expected) (filling : Filling first) (rest : List Expected) (back : Fillings rest) (all later : List Spot) (pieces : List Piece) → chain (front_of later).0 (first ∷ rest) ≡ true → Unfolds first filling pieces
     → Spells (pieces ++ fillings_pieces rest back) all later → Opening first filling rest back all later
