@@ -133,8 +133,7 @@ stays_as : (holds : Class → Bool) (one two : Class) → stays one two ≡ true
 stays_as holds one two stay any here = grind (arith, holds, any)
 
 pub chain_rest : (end : Lexeme) (first : Expected) (rest : List Expected) → chain end (first ∷ rest) ≡ true → chain end rest ≡ true
-chain_rest end first [] chained = refl
-chain_rest end first (second ∷ rest) chained = second_of (admits (class first) second) (chain end (second ∷ rest)) chained
+chain_rest end first rest chained = grind (arith, second_of)
 
 pub chain_on : (end : Lexeme) (expression : Bool) (first : Expected) (more rest : List Expected) → follows expression (class first) more ≡ true → chain end (first ∷ rest) ≡ true → chain end (more ++ rest) ≡ true
 chain_on end expression first [] rest follow chained = chain_rest end first rest chained

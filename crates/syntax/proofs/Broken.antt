@@ -1,5 +1,5 @@
 -- Where an expression breaks off.
-use Rattle.std.proofs.Common.{◌≡◌, ◌≢◌, true, false, List, [], ◌∷◌, refl, ap, ◌∙◌, Option, arith}
+use Rattle.std.proofs.Common.{◌≡◌, ◌≢◌, true, false, List, [], ◌∷◌, refl, Option, arith}
 use Rattle.syntax.specs.Tokens.{Spot}
 use Rattle.syntax.specs.declared.partial.Partial.{Partial}
 use Rattle.syntax.specs.declared.operand.Operand.{Operand}
@@ -30,11 +30,4 @@ none_to_close state outer prod none = rw none refl
 pub ended_as : (state : Expression) (prod : Prod) (expression : Operand) (kept : Partial) (before after : List Spot) → after ≡ before
     → look (behind_operand state prod) (front_of before).0 (front_of before).1 ≡ look_end state state.outer prod
     → EndsAs state prod expression kept → IsWhole state prod expression kept before after
-ended_as state prod expression kept before after same looks ends = record {
-  same = same;
-  first = ends.0;
-  passed = ends.1;
-  outer = ends.2;
-  holds = ends.3;
-  looks = looks ∙ ap (λ outer. look_end state outer prod) ends.2;
-}
+ended_as state prod expression kept before after same looks ends = grind arith

@@ -51,18 +51,7 @@ record Reached (stack : List Expected) (spots : List Spot) : Type 0 where
   told : run stack spots ≡ run now rest
 
 here : (stack : List Expected) (spots : List Spot) → BegunInFront stack → Stuck stack spots → Reached stack spots
-here stack spots front stuck = record {
-  count = 0;
-  now = stack;
-  rest = spots;
-  counted = search arith;
-  there = refl;
-  front = front;
-  stuck = stuck;
-  before = λ more before. before;
-  goes = λ telling more others same. (others, same, refl);
-  told = refl;
-}
+here stack spots front stuck = grind (arith, goes)
 
 reached : (spots : List Spot) (stack : List Expected) → BegunInFront stack → Reached stack spots
 reached [] stack front = here stack [] front tt

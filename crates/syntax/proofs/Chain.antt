@@ -64,5 +64,4 @@ not_blank text here place blanks e is some =
 
 pub SoFar-pushed : (text : List ℕ) (place : ℕ) (old new : List Placed) (placed : Placed) → new ≡ old ++ (placed ∷ []) → SoFar text place (spots_of old ++ ((lexeme_of placed.token, placed.place) ∷ []))
     → SoFar text place (spots_of new)
-SoFar-pushed text place old new placed is so_far =
-    subst (λ done. SoFar text place done) (sym (ap spots_of is ∙ map-append _ old (placed ∷ []))) so_far
+SoFar-pushed text place old new placed is so_far = grind (arith, map-append)

@@ -1,11 +1,11 @@
 -- The tokens that the machine takes begin some graph text.
-use Rattle.std.proofs.Common.{◌≡◌, ℕ, suc, codes, List, [], ◌∷◌, ◌++◌, take, None, refl, sym, ap, subst}
+use Rattle.std.proofs.Common.{◌≡◌, ℕ, suc, codes, List, [], ◌∷◌, ◌++◌, take, None, refl, sym, ap, subst, arith}
 use Rattle.std.proofs.lemmas.List.{append-nil}
 use Rattle.syntax.specs.declared.token.Symbol.TheVariants as sign
 use Rattle.syntax.specs.Tokens.{number, symbol, Spot}
 use Rattle.syntax.specs.Grammar.{Position, Named, Names, sum_alone, compared, Sum, prod_alone, Prod, unary_alone, literal, bracketed, no_sums, no_more, put_tag, GraphText}
 use Rattle.syntax.specs.Reading.{CanGoOn}
-use Rattle.syntax.specs.Spelled.{Piece, plain, at, ArePieces, graph_pieces}
+use Rattle.syntax.specs.Spelled.{Piece, plain, at, ArePieces}
 use Rattle.syntax.specs.Expected.{Comparing, never, possible, behind_left, Level, Expression, level_expr, without_product, product_behind, closed, item, Expected, Next, on, next, graph_expected}
 use Rattle.syntax.specs.Expected.{exactly, keyword, a_name, whole, operand, behind_operand, components, more_components, statements, nested_brace, or_else, put_target, declarations, front, front_named, front_closed}
 use Rattle.syntax.specs.Expected.{component_name, behind_component, relations, reader, related, steps, step_name, parameters, parameter, behind_parameter, variables, step_variable, behind_variable}
@@ -120,6 +120,4 @@ pub before_one : (stack after : List Expected) (spot : Spot) (spots : List Spot)
 before_one stack after spot spots count is later = before_all stack after spot spots count (subst (λ (it : Next). AllSound stack spot it) is (all_sound stack spot)) later
 
 pub begins_graph : (count : ℕ) (spots : List Spot) → Before graph_expected count spots → CanGoOn spots count
-begins_graph count spots before =
-    let graph = before.fillings.first in
-    (graph, before.others, subst (λ (pieces : List Piece). ArePieces pieces before.others) (append-nil (graph_pieces graph)) before.are, before.same)
+begins_graph count spots before = grind (arith, append-nil)

@@ -44,15 +44,10 @@ spelled_place name before after spells = grind arith
 
 pub front_name : (kind : Kind) (items tags : ℕ) (name : Name) (before after : List Spot) → Reads (a_name ∷ []) [] (named (named_of name) ∷ []) before after
     → Reads (front kind items tags ∷ []) (front_named kind items tags name.place ∷ []) (named (named_of name) ∷ []) before after
-front_name kind items tags name before after read = record {
-  spells = read.spells;
-  goes = λ behind. name_due kind items tags behind before ∙ ap (λ place. run (a_name ∷ front_named kind items tags place ∷ behind) before) (spelled_place name before after read.spells)
-      ∙ read.goes (front_named kind items tags name.place ∷ behind);
-}
+front_name kind items tags name before after read = grind (arith, name_due, spelled_place)
 
 pub front_stops : (kind : Kind) (items tags : ℕ) (before after : List Spot) (cause : Stop) → Stops (a_name ∷ []) before after cause → Stops (front kind items tags ∷ []) before after cause
-front_stops kind items tags before after cause stops behind =
-    subst (Tells cause after) (sym (name_due kind items tags behind before)) (stops (front_named kind items tags (front_of before).1 ∷ behind))
+front_stops kind items tags before after cause stops = grind (arith, name_due)
 
 -- ---- parts one after another
 
@@ -95,31 +90,11 @@ none_passed one names components counts more no_one no_names none = rw (no_one, 
 pub declaration_begun : {first : Expected} {expected : List Expected} {piece : Piece} {items tags more_items more_tags : ℕ} {tree : Declared} {before middle after : List Spot}
     → Reads (first ∷ []) expected (piece ∷ []) before middle → IsDeclarationRest expected (piece ∷ []) items tags more_items more_tags tree middle after
     → IsDeclarationRest (first ∷ []) [] items tags more_items more_tags tree before after
-declaration_begun {first} {expected} {piece} {items} {tags} {more_items} {more_tags} {tree} {before} {middle} {after} begun read = record {
-  declaration = read.declaration;
-  rest = piece ∷ read.rest;
-  spelled = read.spelled;
-  reads = record {
-    spells = spelled_on (piece ∷ []) read.rest before middle after begun.spells read.reads.spells;
-    goes = λ behind. begun.goes behind ∙ read.reads.goes behind;
-  };
-  is = read.is;
-  within = read.within;
-}
+declaration_begun begun read = grind (arith, spelled_on)
 
 pub relation_begun : {first : Expected} {expected more : List Expected} {piece : Piece} {limits : List Position} {tree : Related} {before middle after : List Spot}
     → Reads (first ∷ []) expected (piece ∷ []) before middle → IsRelationRest expected more (piece ∷ []) limits tree middle after → IsRelationRest (first ∷ []) more [] limits tree before after
-relation_begun {first} {expected} {more} {piece} {limits} {tree} {before} {middle} {after} begun read = record {
-  relation = read.relation;
-  rest = piece ∷ read.rest;
-  spelled = read.spelled;
-  reads = record {
-    spells = spelled_on (piece ∷ []) read.rest before middle after begun.spells read.reads.spells;
-    goes = λ behind. begun.goes behind ∙ read.reads.goes behind;
-  };
-  is = read.is;
-  within = read.within;
-}
+relation_begun begun read = grind (arith, spelled_on)
 
 -- a declaration or a relation after its first token, which is a piece of either
 pub front_begun : (it : Front) {first : Expected} {expected : List Expected} {one two : Piece} (items tags : ℕ) {before middle : List Spot} (after : List Spot)

@@ -1,5 +1,5 @@
 -- A token that is taken begins a filling of all that may come.
-use Rattle.std.proofs.Common.{◌≡◌, ◌≢◌, ◌⊎◌, inl, inr, true, false, List, [], ◌∷◌, ◌++◌, sym, ap, subst, ◌∙◌}
+use Rattle.std.proofs.Common.{◌≡◌, ◌≢◌, ◌⊎◌, inl, inr, true, false, List, [], ◌∷◌, ◌++◌, sym, ap, subst, ◌∙◌, arith}
 use Rattle.std.specs.Prelude.{⊤}
 use Rattle.syntax.specs.Tokens.{Lexeme, unknown, Spot}
 use Rattle.syntax.specs.Grammar.{Position}
@@ -55,12 +55,7 @@ all_left_out first rest spot pieces empty none begun = record {
 }
 
 skipped : (first : Expected) (rest : List Expected) (spot : Spot) (empty : Filling first) (without : Next) → filling_pieces first empty ≡ [] → AllSound rest spot without → AllSound (first ∷ rest) spot without
-skipped first rest spot empty (on after) none behind = λ later. all_left_out first rest spot (fillings_pieces after later) empty none (behind later)
-skipped first rest spot empty nothing_left none behind = tt
-skipped first rest spot empty at_fault none behind = tt
-skipped first rest spot empty (limit_passed place) none (inl it) =
-    inl (record { known = it.known; after = it.after; begun = λ later. all_left_out first rest spot (fillings_pieces it.after later) empty none (it.begun later) })
-skipped first rest spot empty (limit_passed place) none (inr lost) = inr (inr lost)
+skipped first rest spot empty without none behind = grind (arith, all_left_out)
 
 met_sound : (first : Expected) (rest : List Expected) (spot : Spot) (move : Move) (without : Next) → Turn first spot move → AllSound rest spot without → AllSound (first ∷ rest) spot (met move rest without)
 met_sound first rest spot move without (takes limits more made is may begins) behind = subst (λ (it : Move). AllSound (first ∷ rest) spot (met it rest without)) (sym is) (by limits)

@@ -56,14 +56,7 @@ goes_broken state spot place same = grind arith
 -- a sign after which an operand comes still
 goes_awaits : (state more : Expression) (it : Symbol) (place : Position) → ((expr : Expr) → Fits (outermost more.level more.outer) expr → Fits (outermost state.level state.outer) expr)
     → state_pieces more ≡ state_pieces state ++ at place (symbol it) ∷ [] → Goes state (symbol it, place) (awaits more)
-goes_awaits state more it place fit spelled = (
-  refl,
-  λ comparing. refl,
-  λ later.
-      let piece = at place (symbol it) in
-      let same = ap (λ (list : List Piece). list ++ later.first.rest) spelled ∙ one_behind (state_pieces state) piece later.first.rest in
-      (piece, (refl, refl), ends_as fit same later.first.makes),
-)
+goes_awaits state more it place fit spelled = grind (arith, fit, ends_as, one_behind)
 
 -- a known token may be an operand
 fits_known : (first : Expected) (lexeme : Lexeme) (more : List Expected) → is_known lexeme ≡ true → follows (is_expression first) (class first) more ≡ true → fits first lexeme more ≡ true
@@ -71,14 +64,7 @@ fits_known first lexeme more known may = rw known may
 
 -- an operand that is one token
 goes_operand : (state : Expression) (unary : Unary) (piece : Piece) (spot : Spot) → is_known spot.0 ≡ true → unary_pieces unary ≡ piece ∷ [] → IsPiece piece spot → Goes state spot (read_operand state unary)
-goes_operand state unary piece spot known one is = (
-  fits_known (operand state) spot.0 (behind_operand (without_product state) (product_behind state unary) ∷ []) known refl,
-  λ comparing. fits_known (whole comparing) spot.0 (behind_operand (without_product state) (product_behind state unary) ∷ []) known refl,
-  λ later.
-      let so_far = operand_pieces state unary ∙ ap (λ (list : List Piece). state_pieces state ++ list) one in
-      let same = ap (λ (list : List Piece). list ++ later.first.rest) so_far ∙ one_behind (state_pieces state) piece later.first.rest in
-      (piece, is, ends_as (fits_same _ _ (same_outermost (without_product state).level state.level state.outer refl)) same (later.first.makes (refl, refl))),
-)
+goes_operand state unary piece spot known one is = grind (arith, ends_as, fits_known, fits_same, one_behind, operand_pieces, same_outermost)
 
 goes : (state : Expression) (lexeme : Lexeme) (place : Position) → Goes state (lexeme, place) (look_operand state place (head lexeme))
 goes state (symbol sign.Minus) place =

@@ -63,6 +63,4 @@ places_left (spot ∷ spots) zero = refl
 places_left (spot ∷ spots) (suc count) = places_left spots count
 
 pub place_there : (text : List ℕ) (spots rest : List Spot) (count end : ℕ) → end ≡ length text → rest ≡ drop count spots → get_or (map (λ spot. spot.1) rest) 0 end ≡ position_behind text spots count
-place_there text spots rest count end is there =
-    ap (λ them. get_or (map (λ (spot : Spot). spot.1) them) 0 end) there ∙ ap (λ places. get_or places 0 end) (places_left spots count)
-    ∙ dropped (map (λ (spot : Spot). spot.1) spots) count end ∙ ap (get_or (map (λ (spot : Spot). spot.1) spots) count) is
+place_there text spots rest count end is there = grind (arith, dropped, places_left)

@@ -1,10 +1,10 @@
 -- Of the things that may come, only the first one can be an expression that has begun.
-use Rattle.std.proofs.Common.{◌≡◌, ◌⊎◌, inl, inr, true, false, if◌then◌else◌, List, [], ◌∷◌, ◌++◌, refl, sym, ap, subst, ◌∙◌, arith}
+use Rattle.std.proofs.Common.{◌≡◌, ◌⊎◌, inl, inr, true, false, if◌then◌else◌, List, [], ◌∷◌, arith}
 use Rattle.syntax.specs.Tokens.{Spot, unknown}
 use Rattle.syntax.specs.Grammar.{Position}
-use Rattle.syntax.specs.Expected.{Expected, Move, taken, within, look, Next, on, met, next}
+use Rattle.syntax.specs.Expected.{Expected, Move, look, Next, on, met, next}
 use Rattle.syntax.proofs.Lost.{IsLost}
-use Rattle.syntax.proofs.Behind.{is_begun, is_expression, chain, chain_rest, chain_on, fresh, fresh_rest}
+use Rattle.syntax.proofs.Behind.{is_begun, chain, chain_rest, chain_on, fresh, fresh_rest}
 use Rattle.syntax.proofs.Turns.{Turn, takes, skips, fails, loses}
 use Rattle.syntax.proofs.AllTurns.{turn}
 use Rattle.syntax.proofs.Walk.{may_be_put}
@@ -16,16 +16,7 @@ BegunInFront stack = chain unknown stack ≡ true
 
 met_so : (first : Expected) (rest after : List Expected) (spot : Spot) (move : Move) (without : Next) → Turn first spot move → BegunInFront (first ∷ rest) → (without ≡ on after → BegunInFront after) → met move rest without ≡ on after
     → BegunInFront after
-met_so first rest after spot move without (takes limits more made is may begins) only behind e = by limits (sym (ap (λ (it : Move). met it rest without) is) ∙ e)
-  where
-    by : (limits : List Position) → met (within limits (taken more)) rest without ≡ on after → BegunInFront after
-    by [] e =
-        let same : more ++ rest ≡ after = cc in
-        subst BegunInFront same (chain_on unknown (is_expression first) first more rest (may_be_put first spot.0 more may) only)
-    by (place ∷ limits) e = absurd (cc)
-met_so first rest after spot move without (skips empty is none) only behind e = behind (sym (ap (λ (it : Move). met it rest without) is) ∙ e)
-met_so first rest after spot move without (fails is) only behind e = let none = sym (ap (λ (it : Move). met it rest without) is) ∙ e in absurd (cc)
-met_so first rest after spot move without (loses place is lost) only behind e = let none = sym (ap (λ (it : Move). met it rest without) is) ∙ e in absurd (cc)
+met_so first rest after spot move without given only behind e = grind (arith, behind, chain_on, fails, loses, may_be_put, skips, takes)
 
 pub front_stays : (stack after : List Expected) (spot : Spot) → BegunInFront stack → next stack spot ≡ on after → BegunInFront after
 front_stays [] after spot only is = absurd (cc)
@@ -55,6 +46,4 @@ pub record LostFirst (place : Position) (stack : List Expected) : Type 0 where
   pub lost : IsLost place first
 
 pub lost_first : (place : Position) (stack : List Expected) → BegunInFront stack → LostAmong place stack → LostFirst place stack
-lost_first place [] only lost = absurd lost
-lost_first place (first ∷ rest) only (inl lost) = record { first = first; rest = rest; whole = refl; lost = lost }
-lost_first place (first ∷ rest) only (inr lost) = absurd (none_lost place rest (fresh_rest unknown first rest only) (chain_rest unknown first rest only) lost)
+lost_first place stack only lost = grind (arith, chain_rest, fresh_rest, none_lost)

@@ -1,13 +1,13 @@
 -- The components of a key, one for one.
-use Rattle.std.proofs.Common.{◌≡◌, List, [], ◌∷◌, ◌++◌, true, false, refl, sym, subst, ◌∙◌, append_assoc}
+use Rattle.std.proofs.Common.{◌≡◌, List, [], ◌∷◌, ◌++◌, true, false, refl, sym, subst, ◌∙◌, append_assoc, arith}
 use Rattle.std.proofs.lemmas.List.{append-nil}
 use Rattle.steptree.specs.Tree.{NamedExpression}
 use Rattle.syntax.specs.declared.token.Symbol.TheVariants as sign
 use Rattle.syntax.specs.Tokens.{Spot}
 use Rattle.syntax.specs.Grammar.{Sum, no_sums, sums}
-use Rattle.syntax.specs.Limits.{expr_limits, sum_limits}
-use Rattle.syntax.specs.Spelled.{a_sign, expr_pieces, sum_pieces, sums_pieces}
-use Rattle.syntax.specs.Tree.{IsExpr, IsSum, AreAll}
+use Rattle.syntax.specs.Limits.{sum_limits}
+use Rattle.syntax.specs.Spelled.{a_sign, sum_pieces, sums_pieces}
+use Rattle.syntax.specs.Tree.{IsSum, AreAll}
 use Rattle.syntax.specs.Expected.{never, whole, components, more_components}
 use Rattle.syntax.specs.Parsed.{Spells, Reads, TakenIf}
 use Rattle.syntax.specs.Whole.{IsExpression}
@@ -47,14 +47,7 @@ pub record IsComponent (tree : NamedExpression) (before after : List Spot) : Typ
   pub within : sum_limits sum ≡ []
 
 pub is_component : (tree : NamedExpression) (before after : List Spot) → IsExpression never tree before after → IsComponent tree before after
-is_component tree before after read =
-    let alone = read.alone refl in
-    record {
-      sum = alone.0;
-      reads = subst (λ expr. Reads (whole never ∷ []) [] (expr_pieces expr) before after) alone.1 read.reads;
-      is = subst (λ expr. IsExpr expr tree) alone.1 read.is;
-      within = subst (λ expr. expr_limits expr ≡ []) alone.1 read.within;
-    }
+is_component tree before after read = grind arith
 
 -- at least one component was read, and these are the trees
 abbrev pub SumsRead : List NamedExpression → List Spot → List Spot → Type 0

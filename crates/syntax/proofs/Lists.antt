@@ -1,5 +1,5 @@
 -- Things that are read one after another, with commas between them.
-use Rattle.std.proofs.Common.{◌≡◌, List, [], ◌∷◌, ◌++◌, ap, sym, ◌∙◌, append_assoc}
+use Rattle.std.proofs.Common.{◌≡◌, List, [], ◌∷◌, ◌++◌, ap, sym, ◌∙◌, append_assoc, arith}
 use Rattle.std.specs.List.{flat_map}
 use Rattle.std.proofs.lemmas.List.{append-nil}
 use Rattle.syntax.specs.Tokens.{Spot}
@@ -42,5 +42,4 @@ one_listed pieces limits Known (first ∷ read) one reads known none within =
 pub next_spelled : {X : Type 0} {pieces : List X → List Piece} {limits : X → List Position} {Known : List X → Type 0} {from to : Expected} {start now : List Spot} (after : List Spot) (comma : List Piece) (spelled : X → List Piece)
     → ((first : X) (more : List X) (next : X) → pieces (first ∷ (more ++ next ∷ [])) ≡ pieces (first ∷ more) ++ (comma ++ spelled next)) → (it : Listed pieces limits Known from to start now)
     → Spells comma now after → (next : X) (end : List Spot) → Spells (spelled next) after end → Spells (pieces (it.first ∷ (it.more ++ next ∷ []))) start end
-next_spelled {X} {pieces} {limits} {Known} {from} {to} {start} {now} after comma spelled same it taken next end spells =
-    rw (same it.first it.more next) (spelled_on (pieces (it.first ∷ it.more)) (comma ++ spelled next) start now end it.reads.spells (spelled_on comma (spelled next) now after end taken spells))
+next_spelled after comma spelled same it taken next end spells = grind (arith, spelled, same, spelled_on)

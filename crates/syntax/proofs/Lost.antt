@@ -1,13 +1,13 @@
 -- An expression in which a limit is passed, or that is too deep: once it is whole nothing else is reported, whatever tokens come.
-use Rattle.std.proofs.Common.{◌≡◌, ◌≤◌, ◌<◌, Bool, if◌then◌else◌, List, [], ◌∷◌, length, Option, Some, None, refl, ap, subst, arith}
+use Rattle.std.proofs.Common.{◌≡◌, ◌≤◌, ◌<◌, Bool, if◌then◌else◌, List, [], ◌∷◌, Option, Some, None, refl, arith}
 use Rattle.std.specs.Prelude.{⊤}
-use Rattle.syntax.specs.declared.limits.TheConstants.{MOST_BRACKETS, MOST_DEPTH}
+use Rattle.syntax.specs.declared.limits.TheConstants.{MOST_DEPTH}
 use Rattle.syntax.specs.Tokens.{Lexeme, Spot, unknown}
-use Rattle.syntax.specs.Grammar.{Position, Sum, Prod, Unary, literal, variable, multiplied, Multiplication, added, Addition, Comparison}
-use Rattle.syntax.specs.Limits.{one_more, name_limits, expr_depth, sum_depth, prod_depth}
-use Rattle.syntax.specs.Expected.{Comparing, possible, behind_left, Level, Expression, level_expr, sum_of, compared_of, product_of, negated_by, product_behind, earlier}
-use Rattle.syntax.specs.Expected.{negating, bracketing, passing, without_product, awaiting_product, awaiting_sum, broken_off, finished}
-use Rattle.syntax.specs.Expected.{Joint, by_product, by_sum, by_comparison, closes, ends, joint, Head, minus_sign, open_bracket, a_number, a_variable, no_head, head, look_operand, look_behind, look_end, look_close, look_comparison}
+use Rattle.syntax.specs.Grammar.{Position, Sum, Prod, Unary, Multiplication, Addition, Comparison}
+use Rattle.syntax.specs.Limits.{expr_depth, sum_depth, prod_depth}
+use Rattle.syntax.specs.Expected.{Comparing, possible, behind_left, Level, Expression, level_expr, sum_of, compared_of, product_of, negated_by, product_behind}
+use Rattle.syntax.specs.Expected.{without_product, broken_off, finished}
+use Rattle.syntax.specs.Expected.{Joint, Head, look_operand, look_behind, look_end, look_close, look_comparison}
 use Rattle.syntax.specs.Expected.{Expected, operand, behind_operand, Move, taken, left_out, wrong, passed, within, Next, met, followed, ended, Verdict, accepted, syntax, too_large}
 use Rattle.syntax.proofs.Tellings.{Sooner, its_depth, within_it, of_whole, broken, chosen, whole_or_broken, changed, look_so, next_so, run_so}
 
@@ -35,30 +35,17 @@ deep_negating level (around ∷ outer) negations deep = deep
 
 deep_read : (level : Level) (outer : List (Level × Position)) (unary : Unary) → WaitsDeep level outer
     → EndsDeep (record level { product = None; negations = [] }) outer (product_of level.product (negated_by level.negations unary))
-deep_read level [] unary deep = deep (negated_by level.negations unary)
-deep_read level (around ∷ outer) unary deep = deep
+deep_read level outer unary deep = grind arith
 
 deep_product : (level : Level) (outer : List (Level × Position)) (prod : Prod) (how : Multiplication) → EndsDeep level outer prod → WaitsDeep (record level { product = Some (prod, how) }) outer
-deep_product level [] prod how deep = λ unary.
-    let more : prod_depth prod ≤ prod_depth (multiplied prod how unary) = omega arith in
-    let all = deeper_compared level.comparing (sum_of level.sum prod) (sum_of level.sum (multiplied prod how unary)) (deeper_sum level.sum prod (multiplied prod how unary) more) in
-    omega (arith, deep, all)
-deep_product level (around ∷ outer) prod how deep = deep
+deep_product level outer prod how deep = grind (arith, deeper_compared, deeper_sum)
 
 deep_sum : (level : Level) (outer : List (Level × Position)) (prod : Prod) (how : Addition) → EndsDeep level outer prod → WaitsDeep (record level { sum = Some (sum_of level.sum prod, how) }) outer
-deep_sum level [] prod how deep = λ unary.
-    let sum = sum_of level.sum prod in
-    let more : sum_depth sum ≤ sum_depth (added sum how (product_of level.product unary)) = omega arith in
-    let all = deeper_compared level.comparing sum (added sum how (product_of level.product unary)) more in
-    omega (arith, deep, all)
-deep_sum level (around ∷ outer) prod how deep = deep
+deep_sum level outer prod how deep = grind (arith, deeper_compared)
 
 deep_comparison : (level : Level) (outer : List (Level × Position)) (prod : Prod) (how : Comparison) → level.comparing ≡ possible → EndsDeep level outer prod
     → WaitsDeep (record level { comparing = behind_left (sum_of level.sum prod) how; sum = None }) outer
-deep_comparison level [] prod how may deep = λ unary.
-    let here : MOST_DEPTH < sum_depth (sum_of level.sum prod) = subst (λ (it : Comparing). MOST_DEPTH < expr_depth (compared_of it (sum_of level.sum prod))) may deep in
-    omega (arith, here)
-deep_comparison level (around ∷ outer) prod how may deep = deep
+deep_comparison level outer prod how may deep = grind arith
 
 -- ---- what is lost
 
@@ -98,15 +85,7 @@ lost_read : (sooner : Sooner) (place : Position) (state : Expression) (unary : U
 lost_read sooner place state unary lost = lost_on sooner place state (without_product state) (deep_read state.level state.outer unary) refl (λ same. same) lost
 
 lost_operand : (sooner : Sooner) (place : Position) (state : Expression) (at : Position) (it : Head) → Lost sooner place (operand state) → LostMove sooner place (changed (broken (of_whole sooner)) (look_operand state at it))
-lost_operand sooner place state at minus_sign lost = lost_on sooner place state (negating state at) (deep_negating state.level state.outer (at ∷ state.level.negations)) refl (λ same. same) lost
-lost_operand sooner place state at open_bracket lost =
-    lost_on {one = WaitsDeep state.level state.outer} sooner place state (bracketing state at) (λ deep. deep) refl (λ same. ap (λ (one : Option Position). earlier one (one_more MOST_BRACKETS (length state.outer) at)) same) lost
-lost_operand sooner place state at (a_number value) lost = lost_read sooner place state (literal at value) lost
-lost_operand sooner place state at (a_variable text) lost =
-    let places = name_limits (text, at) in
-    lost_read sooner place (passing state places) (variable (text, at))
-    (lost_on {one = WaitsDeep state.level state.outer} sooner place state (passing state places) (λ deep. deep) refl (λ same. ap (λ (one : Option Position). earlier one places) same) lost)
-lost_operand sooner place state at no_head lost = lost_broken sooner place state.passed
+lost_operand sooner place state at it lost = grind (arith, deep_negating, lost_broken, lost_on, lost_read)
 
 -- what is reported of a whole expression: `deep` if it is too deep, `before` is the first limit within it
 abbrev told : Sooner → Position → Bool → Option Position → Position → Type 0
@@ -138,16 +117,10 @@ lost_comparison sooner place state comparing prod how same lost = grind arith
 
 lost_behind : (sooner : Sooner) (place : Position) (state : Expression) (prod : Prod) (it : Joint) → Lost sooner place (behind_operand state prod)
     → LostMove sooner place (changed (whole_or_broken (of_whole sooner) state.outer state.passed) (look_behind state prod it))
-lost_behind sooner place state prod (by_product how) lost = lost_on sooner place state (awaiting_product state prod how) (deep_product state.level state.outer prod how) refl (λ same. same) lost
-lost_behind sooner place state prod (by_sum how) lost = lost_on sooner place state (awaiting_sum state prod how) (deep_sum state.level state.outer prod how) refl (λ same. same) lost
-lost_behind sooner place state prod (by_comparison how) lost = lost_comparison sooner place state state.level.comparing prod how refl lost
-lost_behind sooner place state prod closes lost = lost_close sooner place state state.outer prod refl lost
-lost_behind sooner place state prod ends lost = lost_end sooner place state state.outer prod refl lost
+lost_behind sooner place state prod it lost = grind (arith, deep_product, deep_sum, lost_close, lost_comparison, lost_end, lost_on)
 
 lost_look : (sooner : Sooner) (place : Position) (first : Expected) (lexeme : Lexeme) (at : Position) → Lost sooner place first → LostMove sooner place (look_so (of_whole sooner) first lexeme at)
-lost_look sooner place (operand state) lexeme at lost = lost_operand sooner place state at (head lexeme) lost
-lost_look sooner place (behind_operand state prod) lexeme at lost = lost_behind sooner place state prod (joint lexeme) lost
-lost_look sooner place _ lexeme at lost = absurd lost
+lost_look sooner place first lexeme at lost = grind (arith, lost_behind, lost_operand)
 
 -- ---- nothing else is reported
 

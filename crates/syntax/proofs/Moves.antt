@@ -1,12 +1,12 @@
 -- One step of the machine, and one part of the parser after another.
-use Rattle.std.proofs.Common.{◌≡◌, ◌≢◌, ℕ, zero, suc, List, [], ◌∷◌, ◌++◌, refl, sym, ap, subst, ◌∙◌, append_assoc, drop, arith}
+use Rattle.std.proofs.Common.{◌≡◌, ◌≢◌, ℕ, zero, suc, List, [], ◌∷◌, ◌++◌, refl, sym, ap, subst, append_assoc, drop, arith, rules}
 use Rattle.syntax.specs.declared.stop.Stop.{Stop}
 use Rattle.syntax.specs.declared.token.Placed.{Placed}
 use Rattle.syntax.specs.Tokens.{Spot, unknown, spots_of}
 use Rattle.syntax.specs.Grammar.{Position}
 use Rattle.syntax.specs.Spelled.{Piece, IsPiece}
 use Rattle.syntax.specs.Expected.{Expected, taken, left_out, wrong, passed, look, next, met, ended, followed, syntax, too_large, run}
-use Rattle.syntax.specs.Parsed.{Spells, Goes, Reads, Tells, Stops}
+use Rattle.syntax.specs.Parsed.{Spells, Goes, Reads, Stops}
 use Rattle.syntax.specs.Front.{front_of, behind_front}
 
 -- the first expected thing takes the next token
@@ -17,8 +17,7 @@ took first more behind spots there e = grind arith
 -- it is left out
 pub skipped : (first : Expected) (behind : List Expected) (spots : List Spot) → look first (front_of spots).0 (front_of spots).1 ≡ left_out
     → run (first ∷ behind) spots ≡ run behind spots
-skipped first behind [] e = ap (λ move. ended (met move behind (next behind (unknown, 0)))) e
-skipped first behind (spot ∷ spots) e = ap (λ move. followed (met move behind (next behind spot)) (spot ∷ spots) (λ after. run after spots)) e
+skipped first behind spots e = grind arith
 
 -- the token is at fault
 pub refused : (first : Expected) (behind : List Expected) (spots : List Spot) → look first (front_of spots).0 (front_of spots).1 ≡ wrong
@@ -45,15 +44,11 @@ spelled_on (piece ∷ one) two (spot ∷ before) middle after first second = (fi
 
 pub goes_on : (expected more others last : List Expected) (before middle after : List Spot) → Goes expected more before middle → Goes (more ++ others) last middle after
     → Goes (expected ++ others) last before after
-goes_on expected more others last before middle after first second behind =
-    ap (λ stack. run stack before) (append_assoc expected others behind) ∙ first (others ++ behind) ∙ ap (λ stack. run stack middle) (sym (append_assoc more others behind)) ∙ second behind
+goes_on expected more others last before middle after first second = grind (arith, append_assoc)
 
 pub reads_on : {expected more last : List Expected} (others : List Expected) {one two : List Piece} {before middle after : List Spot}
     → Reads expected more one before middle → Reads (more ++ others) last two middle after → Reads (expected ++ others) last (one ++ two) before after
-reads_on {expected} {more} {last} others {one} {two} {before} {middle} {after} first second = record {
-  spells = spelled_on one two before middle after first.spells second.spells;
-  goes = goes_on expected more others last before middle after first.goes second.goes;
-}
+reads_on others first second = search (rules, goes_on, spelled_on)
 
 -- where nothing more is expected of the first part
 infixl 6 ◌⨟◌
@@ -63,10 +58,7 @@ pub ◌⨟◌ : {expected rest last : List Expected} {one two : List Piece} {bef
 
 pub stops_on : (expected more others : List Expected) (before middle after : List Spot) (cause : Stop) → Goes expected more before middle → Stops (more ++ others) middle after cause
     → Stops (expected ++ others) before after cause
-stops_on expected more others before middle after cause first second behind =
-    let same : run ((expected ++ others) ++ behind) before ≡ run ((more ++ others) ++ behind) middle =
-    ap (λ stack. run stack before) (append_assoc expected others behind) ∙ first (others ++ behind) ∙ ap (λ stack. run stack middle) (sym (append_assoc more others behind)) in
-    subst (λ verdict. Tells cause after verdict) (sym same) (second behind)
+stops_on expected more others before middle after cause first second = grind (arith, append_assoc)
 
 pub stops_behind : {expected more : List Expected} {pieces : List Piece} {before middle : List Spot} (others : List Expected) (after : List Spot) (cause : Stop)
     → Reads expected more pieces before middle → Stops (more ++ others) middle after cause → Stops (expected ++ others) before after cause
@@ -83,7 +75,4 @@ passed_one (suc n) (token ∷ tokens) = passed_one n tokens
 -- one token, and what may come in its place
 pub taken_one : (first : Expected) (more : List Expected) (piece : Piece) (before after : List Spot) → (front_of before).0 ≢ unknown → after ≡ behind_front before
     → look first (front_of before).0 (front_of before).1 ≡ taken more → IsPiece piece (front_of before) → Reads (first ∷ []) more (piece ∷ []) before after
-taken_one first more piece before after there moved looks is = record {
-  spells = subst (Spells (piece ∷ []) before) (sym moved) (spelled_one piece before there is);
-  goes = λ behind. took first more behind before there looks ∙ ap (run (more ++ behind)) (sym moved);
-}
+taken_one first more piece before after there moved looks is = grind (arith, spelled_one, took)

@@ -164,8 +164,7 @@ parameters_read them before middle after none list =
     record { names = Some list.names; reads = record { spells = read.spells; goes = λ behind. none.1 behind ∙ read.goes behind }; are = list.are; within = list.within }
 
 pub parameters_stop : (before middle after : List Spot) (cause : Stop) → NoParameters false before middle → Stops (parameter 0 ∷ []) middle after cause → Stops (parameters ∷ []) before after cause
-parameters_stop before middle after cause none stops behind =
-    subst (Tells cause after) (sym (none.1 behind)) (subst (λ spots. Stops (parameter 0 ∷ []) spots after cause) none.0 stops behind)
+parameters_stop before middle after cause none stops = grind arith
 
 pub no_variables_read : (count : ℕ) (before after : List Spot) → TakenIfWord kept.Var false before after → AreVariables count [] before after
 no_variables_read count before after taken = record {

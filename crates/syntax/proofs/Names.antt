@@ -1,7 +1,6 @@
 -- The limits at names one after another, and the limit on their number.
-use Rattle.std.proofs.Common.{◌≡◌, ◌<◌, ◌≤◌, ℕ, suc, Bool, true, false, ◌-◌, arith, rules, List, [], ◌∷◌, ◌++◌, refl, sym, ap, ◌∙◌}
+use Rattle.std.proofs.Common.{◌≡◌, ℕ, suc, ◌-◌, arith, List, [], ◌∷◌, ◌++◌, refl, sym, ap, ◌∙◌}
 use Rattle.std.specs.List.{flat_map}
-use Rattle.std.proofs.Math.Dec.{ltb}
 use Rattle.std.proofs.lemmas.Bool.{ltb-false}
 use Rattle.std.proofs.lemmas.List.{append_assoc}
 use Rattle.syntax.specs.Grammar.{Position, Named}
@@ -18,20 +17,7 @@ each_append limits before (it ∷ one) two =
 
 -- one more name, with `before` names before it
 behind_step : (most before : ℕ) (it : Named) (names : List Named) → names_behind (most - before) (it ∷ names) ≡ one_more most before it.1 ++ names_behind (most - suc before) names
-behind_step most before it names = by (ltb before most) refl
-  where
-    by : (b : Bool) → ltb before most ≡ b → names_behind (most - before) (it ∷ names) ≡ one_more most before it.1 ++ names_behind (most - suc before) names
-    by true less =
-        let few : before < most = search (rules, less) in
-        let step : most - before ≡ suc (most - suc before) = omega (arith, few) in
-        ap (λ (count : ℕ). names_behind count (it ∷ names)) step ∙ ap (λ (list : List Position). list ++ names_behind (most - suc before) names) (sym (few_more most before it.1 few))
-    by false less =
-        let many : most ≤ before = ltb-false before most less in
-        let here : most - before ≡ 0 = omega (arith, many) in
-        let next : most - suc before ≡ 0 = omega (arith, many) in
-        ap (λ (count : ℕ). names_behind count (it ∷ names)) here
-        ∙ ap (λ (list : List Position). list ++ names_behind 0 names) (sym (too_many_more most before it.1 many))
-        ∙ ap (λ (count : ℕ). one_more most before it.1 ++ names_behind count names) (sym next)
+behind_step most before it names = grind (arith, few_more, ltb-false, too_many_more)
 
 no_names_behind : (most : ℕ) → names_behind most [] ≡ []
 no_names_behind most = grind arith

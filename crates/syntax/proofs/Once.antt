@@ -56,28 +56,14 @@ most unknown = 2
 most _ = 0
 
 leads : (lexeme : Lexeme) (bytes rest : List ℕ) → Stands lexeme bytes rest → (least lexeme ≤ lead bytes) × (lead bytes ≤ most lexeme) × (lead bytes < 3)
-leads (name text) bytes rest h = omega (arith, letter_leads text rest bytes h.0 h.1.0)
-leads (word kept) bytes rest h = omega (arith, letter_leads (word_text kept) rest bytes h.0 h.1.0)
-leads (number value) bytes rest h = omega (arith, digit_leads h.0 rest bytes h.1 h.2.0 h.2.1)
-leads (symbol sign) bytes rest h = omega (arith, ap lead h.0 ∙ sign_leads sign rest)
-leads unknown bytes rest h = elim h.1 [ inl large ↦ omega (arith, large_leads bytes large) | inr none ↦ omega (arith, none_leads bytes none) ]
+leads lexeme bytes rest h = grind (arith, digit_leads, large_leads, letter_leads, none_leads, sign_leads)
 
 -- at least one character, and the first is no blank
 abbrev Starts : List ℕ → Type 0
 Starts bytes = BeginsWithout is_blank bytes × (bytes ≢ [])
 
 starts : (lexeme : Lexeme) (bytes rest : List ℕ) → Stands lexeme bytes rest → Starts bytes
-starts lexeme bytes rest stands = by bytes (leads lexeme bytes rest stands).2
-  where
-    no_blank : (byte : ℕ) (letter digit blank : Bool) → is_letter byte ≡ letter → is_digit byte ≡ digit → is_blank byte ≡ blank → (if letter then 0 else (if digit then 1 else (if blank then 3 else 2))) < 3 → is_blank byte ≡ false
-    no_blank byte true digit blank e f g few = letter_no_blank byte e
-    no_blank byte false true blank e f g few = digit_no_blank byte f
-    no_blank byte false false true e f g few = absurd (omega arith)
-    no_blank byte false false false e f g few = g
-
-    by : (bytes : List ℕ) → lead bytes < 3 → Starts bytes
-    by [] few = absurd (omega arith)
-    by (first ∷ rest) few = (no_blank first (is_letter first) (is_digit first) (is_blank first) refl refl refl few, λ none. absurd (cc))
+starts lexeme bytes rest stands = grind (arith, digit_no_blank, leads, letter_no_blank)
 
 -- ---- the first token
 
@@ -108,10 +94,7 @@ no_sign [] sign h begins = h
 no_sign (first ∷ rest) sign h begins = h.3 sign begins
 
 never_large : (bytes rest : List ℕ) (value : ℕ) → Stands (number value) bytes rest → IsTooLarge bytes ⊎ BeginsNone bytes → ⊥
-never_large bytes rest value x h = elim h [
-  | inl large ↦ let same = same_digits x.0 large.0 rest large.1 value large.2 (sym x.1 ∙ large.3) x.2 large.4 in omega (arith, same.0, x.3, large.5)
-  | inr none ↦ omega (arith, digit_leads x.0 rest bytes x.1 x.2.0 x.2.1, none_leads bytes none)
-]
+never_large bytes rest value x h = grind (arith, digit_leads, none_leads, same_digits)
 
 never_sign : (bytes rest : List ℕ) (sign : Symbol) → Stands (symbol sign) bytes rest → IsTooLarge bytes ⊎ BeginsNone bytes → ⊥
 never_sign bytes rest sign x h = elim h [
@@ -148,8 +131,7 @@ blank_is_none lexeme bytes blanks here rest all e front stands =
     begins.1 (sym same.1)
 
 same_lists : (spot spot' : Spot) (more more' : List Spot) → spot.0 ≡ spot'.0 → spot.1 ≡ spot'.1 → more ≡ more' → spot ∷ more ≡ spot' ∷ more'
-same_lists spot spot' more more' lexemes places tails =
-    ap (λ (l : Lexeme). let s : Spot = (l, spot.1) in s ∷ more) lexemes ∙ ap (λ (n : ℕ). let s : Spot = (spot'.0, n) in s ∷ more) places ∙ ap (λ (rest : List Spot). spot' ∷ rest) tails
+same_lists spot spot' more more' lexemes places tails = grind arith
 
 pub once : (one two : List Spot) (at : ℕ) (bytes : List ℕ) → AreTokens at bytes one → AreTokens at bytes two → one ≡ two
 once [] [] at bytes x y = refl

@@ -1,13 +1,12 @@
 -- From one place in an expression to the next.
-use Rattle.std.proofs.Common.{◌≡◌, ◌≢◌, ℕ, List, [], ◌∷◌, ◌++◌, length, refl, sym, ap, ◌∙◌, append_assoc, Option, None, arith}
+use Rattle.std.proofs.Common.{◌≡◌, ◌≢◌, ℕ, List, [], ◌∷◌, ◌++◌, length, refl, sym, ◌∙◌, append_assoc, Option, None, arith}
 use Rattle.std.proofs.lemmas.List.{append-nil}
-use Rattle.syntax.specs.declared.limits.TheConstants.{MOST_BRACKETS}
 use Rattle.syntax.specs.declared.token.Symbol.TheVariants as sign
 use Rattle.syntax.specs.Tokens.{Spot, unknown}
 use Rattle.syntax.specs.Grammar.{Position, Sum, Prod, Unary, negated, bracketed, Multiplication, Addition, Comparison}
 use Rattle.syntax.specs.Spelled.{Piece, IsPiece, a_sign, sign_at, expr_pieces, sum_pieces, prod_pieces, unary_pieces, addition_sign, multiplication_sign, comparison_sign}
-use Rattle.syntax.specs.Limits.{one_more, expr_within, sum_within, prod_within, unary_within}
-use Rattle.syntax.specs.Expected.{Comparing, never, possible, Level, Expression, Expected, operand, behind_operand, taken, look, run, earlier, negated_by, product_of, sum_of, compared_of, level_expr, product_behind}
+use Rattle.syntax.specs.Limits.{expr_within, sum_within, prod_within, unary_within}
+use Rattle.syntax.specs.Expected.{Comparing, never, possible, Level, Expression, Expected, operand, behind_operand, taken, look, earlier, negated_by, product_of, sum_of, compared_of, level_expr, product_behind}
 use Rattle.syntax.specs.Expected.{negating, bracketing, without_product, awaiting_product, awaiting_sum, awaiting_comparison, closed}
 use Rattle.syntax.specs.Front.{front_of, behind_front}
 use Rattle.syntax.specs.Partial.{read_so_far, IsClear, IsSumAlone, Onward, outermost, state_pieces, state_limits, level_limits, sum_limits_before, product_limits_before, comparison_limits_before, minus_pieces, sum_waiting, product_waiting, comparison_waiting}
@@ -18,12 +17,7 @@ use Rattle.syntax.proofs.Moves.{took, spelled_one, spelled_on}
 pub onward_one : (from to : Expected) (piece : Piece) (before after : List Spot) → (front_of before).0 ≢ unknown → after ≡ behind_front before
     → look from (front_of before).0 (front_of before).1 ≡ taken (to ∷ []) → IsPiece piece (front_of before) → read_so_far to ≡ read_so_far from ++ piece ∷ []
     → (IsClear from → IsClear to) → (IsSumAlone from → IsSumAlone to) → Onward from to before after
-onward_one from to piece before after there moved looks is spelled clear alone = record {
-  goes = λ behind. took from (to ∷ []) behind before there looks ∙ ap (run (to ∷ behind)) (sym moved);
-  spells = λ start so_far. rw (spelled, moved) (spelled_on (read_so_far from) (piece ∷ []) start before (behind_front before) so_far (spelled_one piece before there is));
-  clear = clear;
-  alone = alone;
-}
+onward_one from to piece before after there moved looks is spelled clear alone = grind (arith, clear, alone, spelled_on, spelled_one, took)
 
 -- ---- pieces
 
@@ -94,19 +88,11 @@ pub clear_negating : (state : Expression) (place : Position) → IsClear (operan
 clear_negating state place clear = clear
 
 pub clear_bracketing : (state : Expression) (place : Position) → IsClear (operand state) → IsClear (operand (bracketing state place))
-clear_bracketing state place clear e =
-    let both = not_earlier state.passed (one_more MOST_BRACKETS (length state.outer) place) e in
-    let before : state_limits state ≡ [] = clear both.0 in
-    let limit : one_more MOST_BRACKETS (length state.outer) place ≡ [] = both.1 in
-    simp (append_assoc, append-nil, limit) (simp append_assoc at before)
+clear_bracketing state place clear = grind (arith, append-nil, append_assoc, not_earlier)
 
 pub clear_operand : (state : Expression) (unary : Unary) → (state.passed ≡ None → unary_within (length state.outer) unary ≡ []) → (state.passed ≡ None → state_limits state ≡ [])
     → IsClear (behind_operand (without_product state) (product_behind state unary))
-clear_operand state unary within clear e =
-    let before : state_limits state ≡ [] = clear e in
-    let here : unary_within (length state.outer) unary ≡ [] = within e in
-    let all : state_limits state ++ unary_within (length state.outer) unary ≡ [] = rw (before, here) in
-    simp (product_within, negated_within, append_assoc, append-nil) (simp append_assoc at all)
+clear_operand state unary within clear = grind (arith, within, clear, append-nil, append_assoc, negated_within, product_within)
 
 pub clear_awaiting_product : (state : Expression) (prod : Prod) (how : Multiplication) → state.level.product ≡ None → IsClear (behind_operand state prod) → IsClear (operand (awaiting_product state prod how))
 clear_awaiting_product state prod how none clear e = simp append_assoc (simp (none, append_assoc, append-nil) at (clear e))

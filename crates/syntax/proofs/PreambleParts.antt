@@ -1,5 +1,5 @@
 -- Declarations one after another, and relations after them.
-use Rattle.std.proofs.Common.{◌≡◌, ◌<◌, ℕ, suc, nat_lt, Bool, true, false, if◌then◌else◌, rules, List, [], ◌∷◌, ◌++◌, refl, sym, ap, subst, ◌∙◌, append_assoc}
+use Rattle.std.proofs.Common.{◌≡◌, ◌<◌, ℕ, suc, List, [], ◌∷◌, ◌++◌, refl, sym, ap, subst, ◌∙◌, append_assoc, arith}
 use Rattle.std.specs.List.{flat_map}
 use Rattle.std.proofs.lemmas.List.{append-nil}
 use Rattle.steptree.specs.declared.sheet.TheConstants.{MOST_COLLECTIONS}
@@ -22,8 +22,7 @@ use Rattle.syntax.proofs.Lists.{flat_more, flat_none, all_more}
 -- one more after those
 spelled_more : {X : Type 0} (pieces : X → List Piece) (read : List X) (one : X) (rest : List Piece) (start now after : List Spot) → pieces one ≡ rest
     → Spells (flat_map pieces read) start now → Spells rest now after → Spells (flat_map pieces (read ++ one ∷ [])) start after
-spelled_more pieces read one rest start now after same first second =
-    subst (λ all. Spells all start after) (sym (flat_more pieces read one)) (spelled_on (flat_map pieces read) (pieces one) start now after first (subst (λ all. Spells all now after) (sym same) second))
+spelled_more pieces read one rest start now after same first second = grind (arith, pieces, flat_more, spelled_on)
 
 pub one_declared : {items tags : ℕ} {trees : List Declared} {start now : List Spot} (more_items more_tags : ℕ) (tree : Declared) (after : List Spot) → AreDeclared items tags trees start now
     → IsDeclarationRest (declarations items tags ∷ []) [] items tags more_items more_tags tree now after → AreDeclared more_items more_tags (trees ++ tree ∷ []) start after
@@ -51,18 +50,7 @@ declared_alone {items} {tags} {trees} {start} {now} so_far = record {
 -- where `others` may come in place of `more`
 pub preamble_on : {more others : List Expected} {declared : List Declared} {related : List Related} {start now : List Spot} (after : List Spot) → ArePreamble more declared related start now
     → Reads more others [] now after → ArePreamble others declared related start after
-preamble_on {more} {others} {declared} {related} {start} {now} after so_far next = record {
-  declared = so_far.declared;
-  related = so_far.related;
-  reads = record {
-    spells = subst (Spells (flat_map declaration_pieces so_far.declared ++ flat_map relation_pieces so_far.related) start) next.spells so_far.reads.spells;
-    goes = λ behind. so_far.reads.goes behind ∙ next.goes behind;
-  };
-  declarations = so_far.declarations;
-  relations = so_far.relations;
-  declarations_within = so_far.declarations_within;
-  relations_within = so_far.relations_within;
-}
+preamble_on after so_far next = grind arith
 
 pub one_related : {more others : List Expected} {declared : List Declared} {related : List Related} {start now : List Spot} (tree : Related) (after : List Spot) → ArePreamble more declared related start now
     → IsRelationRest more others [] [] tree now after → ArePreamble others declared (related ++ tree ∷ []) start after
@@ -85,10 +73,7 @@ one_related {more} {others} {declared} {related} {start} {now} tree after so_far
 -- ---- how many are declared
 
 none_over : (most before : ℕ) (place : Position) (others more : List Position) → (one_more most before place ++ others) ++ more ≡ [] → before < most
-none_over most before place others more none = decided (nat_lt before most) refl where
-  decided : (less : Bool) → nat_lt before most ≡ less → before < most
-  decided true e = search (rules, e)
-  decided false e = let some : place ∷ (others ++ more) ≡ [] = ap (λ less. ((if less then [] else place ∷ []) ++ others) ++ more) (sym e) ∙ none in absurd (cc)
+none_over most before place others more none = grind arith
 
 pub item_room : {expected : List Expected} {pieces : List Piece} {items tags : ℕ} {before after : List Spot} (name : Name) (count : ℕ)
     → IsDeclarationRest expected pieces items tags (suc items) tags (declares.Item name count) before after → items < MOST_COLLECTIONS

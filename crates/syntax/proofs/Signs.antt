@@ -1,5 +1,5 @@
 -- A sign is determined by its number.
-use Rattle.std.proofs.Common.{◌≡◌, Bool, false, nat_eq, List, [], ◌∷◌, Some, sym, ap, ◌∙◌, slice_get, IsTrue, rules, arith}
+use Rattle.std.proofs.Common.{◌≡◌, Bool, false, nat_eq, List, [], ◌∷◌, Some, slice_get, IsTrue, rules, arith}
 use Rattle.syntax.specs.declared.token.Symbol.{Symbol}
 use Rattle.syntax.specs.declared.token.Symbol.TheVariants.{OpenBracket, CloseBracket, OpenRound, CloseRound, Less, Greater, OpenBrace, CloseBrace, Colon, Semicolon, Comma, Assign, Plus, Minus, Star, Slash, Percent, DoubleColon, Arrow, DoubleDot, Equal, NotEqual, LessOrEqual, GreaterOrEqual}
 use Rattle.syntax.specs.Expected.{sign_number}
@@ -11,9 +11,7 @@ sign_found : (sign : Symbol) → slice_get signs (sign_number sign) ≡ Some sig
 sign_found sign = grind arith
 
 pub same_number : (one two : Symbol) → sign_number one ≡ sign_number two → one ≡ two
-same_number one two same =
-    let found : Some one ≡ Some two = sym (sign_found one) ∙ ap (slice_get signs) same ∙ sign_found two in
-    cc
+same_number one two same = grind (arith, sign_found)
 
 not_true : (b : Bool) → (IsTrue b → ⊥) → b ≡ false
 not_true b h = grind (arith, h)

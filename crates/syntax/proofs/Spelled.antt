@@ -1,5 +1,5 @@
 -- A word and a sign are determined by their texts.
-use Rattle.std.proofs.Common.{◌≡◌, ℕ, ◌+◌, ◌*◌, if◌then◌else◌, ◌==◌, List, [], ◌∷◌, Option, Some, None, sym, ap, ◌∙◌, arith}
+use Rattle.std.proofs.Common.{◌≡◌, ℕ, ◌+◌, ◌*◌, if◌then◌else◌, ◌==◌, List, [], ◌∷◌, Option, Some, None, arith}
 use Rattle.syntax.specs.declared.token.Word.{Word}
 use Rattle.syntax.specs.declared.token.Word.TheVariants as reserved
 use Rattle.syntax.specs.declared.token.Symbol.{Symbol}
@@ -26,14 +26,10 @@ word_found : (kept : Word) → with_text word_text words (number_of (word_text k
 word_found kept = grind arith
 
 pub same_word : (one two : Word) → word_text one ≡ word_text two → one ≡ two
-same_word one two same =
-    let found : Some one ≡ Some two = sym (word_found one) ∙ ap (λ text. with_text word_text words (number_of text)) same ∙ word_found two in
-    cc
+same_word one two same = grind (arith, word_found)
 
 symbol_found : (sign : Symbol) → with_text symbol_text symbols (number_of (symbol_text sign)) ≡ Some sign
 symbol_found sign = grind arith
 
 pub same_symbol : (one two : Symbol) → symbol_text one ≡ symbol_text two → one ≡ two
-same_symbol one two same =
-    let found : Some one ≡ Some two = sym (symbol_found one) ∙ ap (λ text. with_text symbol_text symbols (number_of text)) same ∙ symbol_found two in
-    cc
+same_symbol one two same = grind (arith, symbol_found)

@@ -1,5 +1,5 @@
 -- A statement, and the statements after it.
-use Rattle.std.proofs.Common.{◌≡◌, ℕ, List, [], ◌∷◌, ◌++◌, drop, refl, sym, ap, subst, ◌∙◌, append_assoc, Some, None, arith}
+use Rattle.std.proofs.Common.{◌≡◌, ℕ, List, [], ◌∷◌, ◌++◌, drop, refl, sym, ap, subst, append_assoc, Some, None, arith}
 use Rattle.std.specs.List.{flat_map}
 use Rattle.std.proofs.lemmas.List.{append-nil}
 use Rattle.steptree.specs.declared.step.Name.{Name}
@@ -11,14 +11,14 @@ use Rattle.syntax.specs.declared.stop.Stop.{Stop}
 use Rattle.syntax.specs.declared.token.Word.{Word}
 use Rattle.syntax.specs.declared.token.Word.TheVariants as kept
 use Rattle.syntax.specs.Tokens.{name, word, Spot}
-use Rattle.syntax.specs.Grammar.{Position, Expr, Statement, own, assigned, if_alone, if_else, for, Put, put_item, put_tag}
+use Rattle.syntax.specs.Grammar.{Position, Expr, Statement, assigned, if_alone, if_else, Put, put_item, put_tag}
 use Rattle.syntax.specs.Limits.{statement_limits, statements_limits}
 use Rattle.syntax.specs.Spelled.{plain, a_word, in_braces_at, condition_pieces, put_pieces, statement_pieces, statements_pieces}
 use Rattle.syntax.specs.Tree.{IsStatement, AreStatements, AreAll}
 use Rattle.syntax.specs.Expected.{Part, reading, writing, Expected, keyword, statements, or_else, look, taken, within, Next, met, run}
 use Rattle.syntax.specs.Front.{front_of}
 use Rattle.syntax.specs.Blocks.{IsAssignment}
-use Rattle.syntax.specs.Parsed.{Spells, Goes, Reads, Tells, Stops, named_of}
+use Rattle.syntax.specs.Parsed.{Goes, Reads, Tells, Stops, named_of}
 use Rattle.syntax.specs.Statements.{Own, own_rest, own_pieces, own_limits, is_own, Begins, assignment_expected, choice_expected, repetition_expected, own_expected, IsFirst, IsStatementRead, IsChoiceRead}
 use Rattle.syntax.specs.Statements.{IsConditionRead, IsNestedRead, Second, second_pieces, second_limits, IsSecond, IsSecondRead, NoneBegins, statements_of, StatementsSoFar, AreRead}
 use Rattle.syntax.proofs.Moves.{◌⨟◌, took, reads_on}
@@ -72,10 +72,7 @@ assignment_begins part around spots text is = grind arith
 word_begins : (part : Part) (around : ℕ) (it : Word) (more : List Expected) (spots : List Spot) → (front_of spots).0 ≡ word it
     → look (statements part around) (word it) (front_of spots).1 ≡ taken (more ++ statements part around ∷ [])
     → look (keyword it) (word it) (front_of spots).1 ≡ taken [] → MayBegin part around (keyword it ∷ more) spots
-word_begins part around it more spots is looks takes behind =
-    let there = known spots (word it) is (λ e. cc) in
-    took (statements part around) (more ++ statements part around ∷ []) behind spots there (ap (λ lexeme. look (statements part around) lexeme (front_of spots).1) is ∙ looks)
-    ∙ sym (took (keyword it) [] ((more ++ statements part around ∷ []) ++ behind) spots there (ap (λ lexeme. look (keyword it) lexeme (front_of spots).1) is ∙ takes))
+word_begins part around it more spots is looks takes = grind (arith, known, took)
 
 -- what is expected of a statement that begins so
 abbrev pub expected_of : Part → ℕ → Beginning → List Expected
@@ -97,17 +94,11 @@ may_begin part around beginning.Other spots is = λ behind. refl
 
 same_run : (part : Part) (around : ℕ) (it : Beginning) (behind : List Expected) (before : List Spot) → Begins part (front_of before).0 it
     → run (statements part around ∷ behind) before ≡ run (expected_of part around it ++ (statements part around ∷ behind)) before
-same_run part around it behind before begins =
-    may_begin part around it before begins behind ∙ ap (λ stack. run stack before) (append_assoc (expected_of part around it) (statements part around ∷ []) behind)
+same_run part around it behind before begins = grind (arith, append_assoc, may_begin)
 
 pub one_statement : {part : Part} {around : ℕ} {tree : NamedBlock} {before after : List Spot} (it : Beginning) → Begins part (front_of before).0 it
     → IsStatementRead part around (expected_of part around it) [] tree before after → IsStatementRead part around (statements part around ∷ []) (statements part around ∷ []) tree before after
-one_statement {part} {around} {tree} {before} {after} it begins read = record {
-  statement = read.statement;
-  reads = record { spells = read.reads.spells; goes = λ behind. same_run part around it behind before begins ∙ read.reads.goes (statements part around ∷ behind) };
-  is = read.is;
-  within = read.within;
-}
+one_statement it begins read = grind (arith, same_run)
 
 pub statement_stops : (part : Part) (around : ℕ) (it : Beginning) (before after : List Spot) (cause : Stop) → Begins part (front_of before).0 it → Stops (expected_of part around it) before after cause
     → Stops (statements part around ∷ []) before after cause
@@ -145,12 +136,7 @@ own_weaker writing put _ P Q weaker is = absurd is
 
 statement_weaker : (part : Part) (statement : Statement (Own part)) (tree : NamedBlock) (P Q : NamedBlock → Type 0) → ((other : NamedBlock) → P other → Q other)
     → IsStatement (is_own part) statement tree P → IsStatement (is_own part) statement tree Q
-statement_weaker part (own it) tree P Q weaker is = own_weaker part it tree P Q weaker is
-statement_weaker part (assigned it expr) (block.Assign variable value rest) P Q weaker is = (is.0, is.1, weaker rest is.2)
-statement_weaker part (if_alone condition brace first) (block.If value one two rest) P Q weaker is = (is.0, is.1, is.2, weaker rest is.3)
-statement_weaker part (if_else condition brace first other second) (block.If value one two rest) P Q weaker is = (is.0, is.1, is.2, weaker rest is.3)
-statement_weaker part (for it from to brace inner) (block.For variable low high other rest) P Q weaker is = (is.0, is.1, is.2, is.3, weaker rest is.4)
-statement_weaker part statement _ P Q weaker is = absurd is
+statement_weaker part statement tree P Q weaker is = grind (arith, P, Q, weaker, own_weaker)
 
 are_joined : (part : Part) (read : List (Statement (Own part))) (trees : List NamedBlock) → AreAll (IsFirst part) read trees → AreStatements (is_own part) (statements_of read) (joined trees block.End)
 are_joined part [] [] are = refl
@@ -163,12 +149,4 @@ are_joined part (first ∷ read) (tree ∷ trees) are =
 
 pub all_statements : (part : Part) (around : ℕ) (start now after : List Spot) (trees : List NamedBlock) → StatementsSoFar part around start now trees → NoneBegins part around now after
     → AreRead part around (joined trees block.End) start after
-all_statements part around start now after trees so_far none = record {
-  read = statements_of so_far.read;
-  reads = record {
-    spells = subst (λ pieces. Spells pieces start after) (all_pieces part so_far.read) (subst (Spells (flat_map (statement_pieces (own_pieces part)) so_far.read) start) (sym none.same) so_far.reads.spells);
-    goes = λ behind. so_far.reads.goes behind ∙ none.goes behind;
-  };
-  are = are_joined part so_far.read trees so_far.are;
-  within = all_limits part around so_far.read ∙ so_far.within;
-}
+all_statements part around start now after trees so_far none = grind (arith, all_limits, all_pieces, are_joined)

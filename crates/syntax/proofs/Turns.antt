@@ -1,5 +1,5 @@
 -- What a token does with a thing that may come: the move of the machine, and what the fillings become.
-use Rattle.std.proofs.Common.{◌≡◌, ◌==◌, ℕ, Bool, true, false, if◌then◌else◌, List, [], ◌∷◌, ◌++◌, Some, None, refl, sym, ap, append_assoc, slice_get, rules, ◌∙◌, arith}
+use Rattle.std.proofs.Common.{◌≡◌, ◌==◌, ℕ, Bool, true, false, if◌then◌else◌, List, [], ◌∷◌, ◌++◌, Some, None, refl, sym, ap, append_assoc, slice_get, rules, arith}
 use Rattle.std.proofs.lemmas.List.{append-nil}
 use Rattle.terms.specs.declared.key.TheConstants.{MAX_COMPONENTS}
 use Rattle.syntax.specs.declared.token.Word.{Word}
@@ -50,10 +50,7 @@ word_found : (it : Word) → slice_get words (word_number it) ≡ Some it
 word_found it = grind arith
 
 pub same_word : (it other : Word) → (word_number it == word_number other) ≡ true → word other ≡ word it
-same_word it other same =
-    let number : word_number it ≡ word_number other = search (rules, same) in
-    let found : Some it ≡ Some other = sym (word_found it) ∙ ap (slice_get words) number ∙ word_found other in
-    cc
+same_word it other same = grind (arith, word_found)
 
 abbrev pub turn_sign : (it other : Symbol) (place : Position) (same : Bool) → (sign_number it == sign_number other) ≡ same → Turn (exactly it) (symbol other, place) (is_taken same)
 turn_sign it other place true same = takes [] [] (λ later. tt) refl refl (λ later. (plain (symbol it), same_sign it other same, refl))

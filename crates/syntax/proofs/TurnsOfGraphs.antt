@@ -1,12 +1,11 @@
 -- What a token does with declarations, relations and their parts.
 use Rattle.std.proofs.Common.{◌≡◌, ℕ, List, [], ◌∷◌, ◌++◌, Option, Some, None, refl, sym, ap, ◌∙◌, append_assoc, arith}
-use Rattle.std.specs.List.{flat_map}
 use Rattle.std.proofs.lemmas.List.{append-nil}
 use Rattle.syntax.specs.declared.token.Word.TheVariants as kept
 use Rattle.syntax.specs.declared.token.Symbol.TheVariants as sign
 use Rattle.syntax.specs.Tokens.{Lexeme, word, symbol, Spot}
 use Rattle.syntax.specs.Grammar.{Position, Named, Names, Declaration, item_declared, tag_declared, Relation, prescribes, reads, puts_item, puts_tag, environment_puts_item, environment_puts_tag, environment_gets, GraphText}
-use Rattle.syntax.specs.Spelled.{Piece, plain, at, named, names_pieces, after_colon, relation_pieces, step_pieces, graph_pieces}
+use Rattle.syntax.specs.Spelled.{Piece, plain, at, named, names_pieces, after_colon, relation_pieces, graph_pieces}
 use Rattle.syntax.specs.Expected.{declarations, front_named, front_closed, relations, reader, related, declared_limits, Kind, item, tag, opening, closing, Move, look, look_relation}
 use Rattle.syntax.proofs.Fillings.{RelationsAndSteps, relations_and_steps, reader_pieces, collection_pieces, Target, declares, relates, Front, with_components, closes, front_pieces}
 use Rattle.syntax.proofs.Turns.{Begins, Turn, takes, skips, fails, loses}
@@ -42,18 +41,15 @@ abbrev pub one_relation : Relation → RelationsAndSteps → RelationsAndSteps
 one_relation relation them = record { relations = relation ∷ them.relations; steps = them.steps }
 
 pub relation_behind : (relation : Relation) (them : RelationsAndSteps) (pieces : List Piece) → relation_pieces relation ≡ pieces → relations_and_steps (one_relation relation them) ≡ pieces ++ relations_and_steps them
-relation_behind relation them pieces same =
-    append_assoc (relation_pieces relation) (flat_map relation_pieces them.relations) (flat_map step_pieces them.steps) ∙ ap (λ (list : List Piece). list ++ relations_and_steps them) same
+relation_behind relation them pieces same = grind (arith, append_assoc)
 
 pub by_step_spelled : (kind : Kind) (place : Position) (step it : Named) (them : RelationsAndSteps) → relations_and_steps (one_relation (put_by_step place step kind it) them)
     ≡ at place (symbol sign.OpenRound) ∷ named step ∷ plain (symbol sign.CloseRound) ∷ plain (symbol sign.Arrow) ∷ (collection_pieces kind it ++ (plain (symbol sign.Semicolon) ∷ (relations_and_steps them ++ [])))
-by_step_spelled item place step it them = relation_behind (puts_item place step it) them _ refl ∙ simp append-nil
-by_step_spelled tag place step it them = relation_behind (puts_tag place step it) them _ refl ∙ simp append-nil
+by_step_spelled kind place step it them = grind (arith, append-nil, relation_behind)
 
 pub by_environment_spelled : (kind : Kind) (place : Position) (it : Named) (them : RelationsAndSteps) → relations_and_steps (one_relation (put_by_environment place kind it) them)
     ≡ at place (word kept.Env) ∷ plain (symbol sign.Arrow) ∷ (collection_pieces kind it ++ (plain (symbol sign.Semicolon) ∷ (relations_and_steps them ++ [])))
-by_environment_spelled item place it them = relation_behind (environment_puts_item place it) them _ refl ∙ simp append-nil
-by_environment_spelled tag place it them = relation_behind (environment_puts_tag place it) them _ refl ∙ simp append-nil
+by_environment_spelled kind place it them = grind (arith, append-nil, relation_behind)
 
 abbrev pub turn_relation : (lexeme : Lexeme) (place : Position) → Turn relations (lexeme, place) (look_relation lexeme)
 turn_relation (symbol sign.OpenRound) place =
@@ -100,8 +96,7 @@ graph_of kind place it (closes (relates target them)) = without_declarations (on
 
 declared_spelled : (kind : Kind) (it : Named) (components : Option Names) (graph : GraphText) → graph_pieces (with_declaration (declared_as kind it components) graph)
     ≡ plain (symbol (opening kind)) ∷ named it ∷ (after_colon components ++ (plain (symbol (closing kind)) ∷ plain (symbol sign.Semicolon) ∷ graph_pieces graph))
-declared_spelled item it components graph = simp append_assoc
-declared_spelled tag it components graph = simp append_assoc
+declared_spelled kind it components graph = grind (arith, append_assoc)
 
 pub in_front : (names graph : List Piece) (close semicolon : Piece) → ((names ++ close ∷ []) ++ semicolon ∷ []) ++ graph ≡ names ++ (close ∷ semicolon ∷ (graph ++ []))
 in_front names graph close semicolon = simp (append_assoc, append-nil)
@@ -143,8 +138,7 @@ turn_declarations items tags lexeme place = as_declarations items tags (turn_rel
 
 pub components_spelled : (kind : Kind) (names : Names) (graph : GraphText)
     → front_pieces kind (with_components names graph) ≡ plain (symbol sign.Colon) ∷ (names_pieces names ++ (plain (symbol (closing kind)) ∷ plain (symbol sign.Semicolon) ∷ (graph_pieces graph ++ [])))
-components_spelled kind names graph =
-    ap (λ (list : List Piece). plain (symbol sign.Colon) ∷ list) (in_front (names_pieces names) (graph_pieces graph) (plain (symbol (closing kind))) (plain (symbol sign.Semicolon)))
+components_spelled kind names graph = grind (arith, in_front)
 
 abbrev pub turn_front_named : (kind : Kind) (items tags : ℕ) (place : Position) (lexeme : Lexeme) (other : Position) → Turn (front_named kind items tags place) (lexeme, other) (look (front_named kind items tags place) lexeme other)
 turn_front_named item items tags place (symbol sign.CloseBracket) other = takes [] _ (λ later. closes later.first) refl refl (λ later. (plain (symbol sign.CloseBracket), refl, simp append-nil))

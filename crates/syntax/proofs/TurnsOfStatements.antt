@@ -1,5 +1,5 @@
 -- What a token does with statements, steps and their parts.
-use Rattle.std.proofs.Common.{◌≡◌, ℕ, List, [], ◌∷◌, ◌++◌, Some, None, refl, sym, ap, append_assoc}
+use Rattle.std.proofs.Common.{◌≡◌, ℕ, List, [], ◌∷◌, ◌++◌, refl, ap, append_assoc, arith}
 use Rattle.std.specs.List.{flat_map}
 use Rattle.std.proofs.lemmas.List.{append-nil}
 use Rattle.syntax.specs.declared.limits.TheConstants.{MOST_BRACES}
@@ -8,7 +8,7 @@ use Rattle.syntax.specs.declared.token.Word.TheVariants as kept
 use Rattle.syntax.specs.declared.token.Symbol.TheVariants as sign
 use Rattle.syntax.specs.Tokens.{Lexeme, name, word, symbol}
 use Rattle.syntax.specs.Grammar.{Position, Expr, own, assigned, for, no_more, and_then, Put, put_item, put_tag, StepText}
-use Rattle.syntax.specs.Spelled.{Piece, plain, at, named, expr_pieces, parameters_pieces, variables_pieces, statements_pieces, get_pieces, put_pieces, step_pieces}
+use Rattle.syntax.specs.Spelled.{Piece, plain, at, named, expr_pieces, step_pieces}
 use Rattle.syntax.specs.Limits.{one_more, name_limits}
 use Rattle.syntax.specs.Expected.{Part, reading, writing, statements, nested_brace, put_target, step_rest, look, look_statement_word}
 use Rattle.syntax.specs.Statements.{Second, second_pieces, choice_of}
@@ -35,15 +35,10 @@ pub if_spelled : (part : Part) (condition : Expr) (brace : Position) (block : Bl
     → block_pieces part (and_then (choice_of part condition brace block second) more)
     ≡ plain (word kept.If) ∷ plain (symbol sign.OpenRound) ∷ (expr_pieces condition ++ (plain (symbol sign.CloseRound) ∷ at brace (symbol sign.OpenBrace)
     ∷ (block_pieces part block ++ (plain (symbol sign.CloseBrace) ∷ (second_pieces part second ++ (block_pieces part more ++ []))))))
-if_spelled part condition brace block None more = ap (λ (list : List Piece). plain (word kept.If) ∷ plain (symbol sign.OpenRound) ∷ list)
-    (in_block (expr_pieces condition) (block_pieces part block) (block_pieces part more) (plain (symbol sign.CloseRound)) (at brace (symbol sign.OpenBrace)) (plain (symbol sign.CloseBrace)))
-if_spelled part condition brace block (Some second) more = ap (λ (list : List Piece). plain (word kept.If) ∷ plain (symbol sign.OpenRound) ∷ list)
-    (in_blocks (expr_pieces condition) (block_pieces part block) (block_pieces part second.1) (block_pieces part more)
-    (plain (symbol sign.CloseRound)) (plain (word kept.Else)) (at brace (symbol sign.OpenBrace)) (at second.0 (symbol sign.OpenBrace)) (plain (symbol sign.CloseBrace)))
+if_spelled part condition brace block second more = grind (arith, in_block, in_blocks)
 
 pub put_spelled : (put : Put) (more : Block writing) → block_pieces writing (and_then (own put) more) ≡ plain (word kept.Put) ∷ (target_pieces put ++ (block_pieces writing more ++ []))
-put_spelled (put_item key value) more = ap (λ (list : List Piece). plain (word kept.Put) ∷ (target_pieces (put_item key value) ++ list)) (sym (append-nil (block_pieces writing more)))
-put_spelled (put_tag key) more = ap (λ (list : List Piece). plain (word kept.Put) ∷ (target_pieces (put_tag key) ++ list)) (sym (append-nil (block_pieces writing more)))
+put_spelled put more = grind (arith, append-nil)
 
 abbrev pub turn_statement_word : (part : Part) (around : ℕ) (it : Word) (place : Position) → Turn (statements part around) (word it, place) (look_statement_word part around it)
 turn_statement_word reading around kept.Get place =
@@ -112,8 +107,4 @@ steps_behind before later = later.rest.rest.rest.rest.rest.rest.rest.rest.rest.r
 
 pub step_spelled : (before : ℕ) (later : Fillings (step_rest before))
     → step_pieces (step_made before later) ++ flat_map step_pieces (steps_behind before later) ≡ plain (word kept.Step) ∷ fillings_pieces (step_rest before) later
-step_spelled before later =
-    let it = step_made before later in
-    ap (λ (list : List Piece). plain (word kept.Step) ∷ named it.name ∷ plain (symbol sign.OpenRound) ∷ list)
-    (in_body (parameters_pieces it.parameters) (variables_pieces it.variables) (statements_pieces get_pieces it.read) (statements_pieces put_pieces it.write) (flat_map step_pieces (steps_behind before later))
-    (plain (symbol sign.CloseRound)) (plain (symbol sign.OpenBrace)) (plain (symbol sign.CloseBrace)) (plain (word kept.Read)) (plain (word kept.Write)))
+step_spelled before later = grind (arith, in_body)

@@ -1,5 +1,5 @@
 -- An induction over tokens that fill what may come: a thing is left out, or its first token is taken, or an expression is read.
-use Rattle.std.proofs.Common.{◌≡◌, ◌≤◌, ℕ, zero, suc, Bool, true, false, List, [], ◌∷◌, ◌++◌, length, Some, refl, sym, ap, subst, ◌∙◌, arith}
+use Rattle.std.proofs.Common.{◌≡◌, ◌≤◌, ℕ, zero, suc, Bool, true, false, List, [], ◌∷◌, ◌++◌, length, Some, refl, sym, subst, arith}
 use Rattle.syntax.specs.Tokens.{Lexeme, Spot}
 use Rattle.syntax.specs.Grammar.{Position}
 use Rattle.syntax.specs.Spelled.{Piece, IsPiece}
@@ -80,12 +80,7 @@ opening first filling rest back all later plain_one chained spells = opening_by 
 pub spelled_behind : (first : Expected) (rest more : List Expected) (made : Fillings more → Filling first) (filling : Filling first) (later : Fillings more) (back : Fillings rest) (spot : Spot) (spots end : List Spot)
     → Begins spot (filling_pieces first (made later)) (fillings_pieces more later) → made later ≡ filling → Spells (filling_pieces first filling ++ fillings_pieces rest back) (spot ∷ spots) end
     → Spells (fillings_pieces (more ++ rest) (joined more rest later back)) spots end
-spelled_behind first rest more made filling later back spot spots end begun same spells =
-    subst (λ (pieces : List Piece). Spells pieces spots end) (sym (joined_row filling_pieces more rest later back))
-    (by (subst (λ (pieces : List Piece). Spells (pieces ++ fillings_pieces rest back) (spot ∷ spots) end) (ap (filling_pieces first) (sym same) ∙ begun.2) spells))
-  where
-    by : Spells ((begun.0 ∷ fillings_pieces more later) ++ fillings_pieces rest back) (spot ∷ spots) end → Spells (fillings_pieces more later ++ fillings_pieces rest back) spots end
-    by them = them.1
+spelled_behind first rest more made filling later back spot spots end begun same spells = grind (arith, made, joined_row)
 
 -- ---- the induction
 

@@ -18,12 +18,7 @@ use Rattle.syntax.proofs.Moves.{skipped}
 use Rattle.syntax.proofs.Onward.{compared_pieces, added_pieces, compared_within, added_within}
 
 pub from_on : (comparing : Comparing) (from to : Expected) (start now after : List Spot) → From comparing from start now → Onward from to now after → From comparing to start after
-from_on comparing from to start now after way step = record {
-  goes = λ behind. way.goes behind ∙ step.goes behind;
-  spells = step.spells start way.spells;
-  clear = step.clear way.clear;
-  alone = λ e. step.alone (way.alone e);
-}
+from_on comparing from to start now after way step = grind arith
 
 -- from any place on the way to the next one
 reached_on : (comparing : Comparing) (from : Expected) (start now after : List Spot) (product : Option Operand) (new : Partial) → From comparing from start now → length now ≤ length start → Follows from now after product new
@@ -44,15 +39,10 @@ product_on comparing start now after product more old new reached follows fewer 
 -- ---- the end
 
 whole_pieces : (state : Expression) (prod : Prod) → state.outer ≡ [] → IsBehind state → read_so_far (behind_operand state prod) ≡ expr_pieces (level_expr state.level prod)
-whole_pieces state prod none nothing =
-    let no_product = nothing.0 in
-    let no_minus = nothing.1 in
-    simp (none, no_product, no_minus, compared_pieces, added_pieces, append_assoc, append-nil)
+whole_pieces state prod none nothing = grind (arith, added_pieces, append-nil, append_assoc, compared_pieces)
 
 whole_clear : (state : Expression) (prod : Prod) → state.outer ≡ [] → IsBehind state → state_limits state ++ prod_within (length state.outer) prod ≡ [] → expr_within 0 (level_expr state.level prod) ≡ []
-whole_clear state prod none nothing clear =
-    let no_product = nothing.0 in
-    simp (compared_within, added_within, append_assoc, append-nil) (simp (none, no_product, append_assoc, append-nil) at clear)
+whole_clear state prod none nothing clear = grind (arith, added_within, append-nil, append_assoc, compared_within)
 
 alone_sum : (comparing : Comparing) (sum : Sum) → comparing ≡ never → compared_of comparing sum ≡ sum_alone sum
 alone_sum comparing sum e = grind arith
