@@ -130,7 +130,7 @@ admits_any begun other e = grind arith
 
 -- what holds of the first class, and then of `anything`, holds of the second
 stays_as : (holds : Class → Bool) (one two : Class) → stays one two ≡ true → (holds one ≡ true → holds anything ≡ true) → holds one ≡ true → holds two ≡ true
-stays_as holds one two stay any here = grind (arith, holds, any)
+stays_as holds one two stay any here = grind arith
 
 pub chain_rest : (end : Lexeme) (first : Expected) (rest : List Expected) → chain end (first ∷ rest) ≡ true → chain end rest ≡ true
 chain_rest end first rest chained = grind (arith, second_of)

@@ -51,7 +51,7 @@ record Reached (stack : List Expected) (spots : List Spot) : Type 0 where
   told : run stack spots ≡ run now rest
 
 here : (stack : List Expected) (spots : List Spot) → BegunInFront stack → Stuck stack spots → Reached stack spots
-here stack spots front stuck = grind (arith, goes)
+here stack spots front stuck = grind arith
 
 reached : (spots : List Spot) (stack : List Expected) → BegunInFront stack → Reached stack spots
 reached [] stack front = here stack [] front tt

@@ -4,22 +4,16 @@ use Rattle.steptree.specs.declared.step.Name.{Name}
 use Rattle.syntax.specs.declared.declarations.Front.{Front}
 use Rattle.syntax.specs.declared.stop.Stop.{Stop}
 use Rattle.syntax.specs.declared.token.Symbol.TheVariants as sign
-use Rattle.syntax.specs.declared.tree.Declaration.{Declaration as Declared}
 use Rattle.syntax.specs.declared.tree.Relation.{Relation as Related}
-use Rattle.syntax.specs.Tokens.{Lexeme, symbol, Spot}
+use Rattle.syntax.specs.Tokens.{symbol, Spot}
 use Rattle.syntax.specs.Grammar.{Position}
 use Rattle.syntax.specs.Spelled.{Piece, named, a_sign}
-use Rattle.syntax.specs.Expected.{Kind, Expected, exactly, a_name, front, front_named, front_closed, relations, closing, look, look_name, within, taken, Next, met, run}
+use Rattle.syntax.specs.Expected.{Kind, Expected, exactly, a_name, front, front_named, front_closed, relations, closing, run}
 use Rattle.syntax.specs.Front.{front_of}
-use Rattle.syntax.specs.Parsed.{Spells, Reads, Tells, Stops, named_of}
+use Rattle.syntax.specs.Parsed.{Reads, Tells, Stops, named_of}
 use Rattle.syntax.specs.Relations.{IsRelationRest}
-use Rattle.syntax.specs.Declarations.{relation_rest, IsBehindName, IsDeclarationRest, IsFront}
+use Rattle.syntax.specs.Declarations.{relation_rest, IsBehindName, IsFront}
 use Rattle.syntax.proofs.Moves.{spelled_on}
-
--- after the name, if no colon comes next: the closing bracket
-named_met : (kind : Kind) (items tags : ℕ) (at place : Position) (lexeme : Lexeme) (behind : List Expected) (without other : Next) → lexeme ≢ symbol sign.Colon
-    → met (look (front_named kind items tags at) lexeme place) behind without ≡ met (look (exactly (closing kind)) lexeme place) (front_closed kind items tags at ∷ behind) other
-named_met kind items tags at place lexeme behind without other no_colon = grind arith
 
 pub bracket_due : (kind : Kind) (items tags : ℕ) (at : Position) (behind : List Expected) (spots : List Spot) → (front_of spots).0 ≢ symbol sign.Colon
     → run (front_named kind items tags at ∷ behind) spots ≡ run (exactly (closing kind) ∷ front_closed kind items tags at ∷ behind) spots
@@ -27,24 +21,14 @@ bracket_due kind items tags at behind spots no_colon = grind arith
 
 -- ---- the name
 
-within_met : (limits : List Position) (one : Expected) (behind : List Expected) (without other : Next) → met (within limits (taken (one ∷ []))) behind without ≡ met (within limits (taken [])) (one ∷ behind) other
-within_met limits one behind without other = grind arith
-
-name_met : (lexeme : Lexeme) (place : Position) (one : Expected) (behind : List Expected) (without other : Next)
-    → met (look_name lexeme place [] (one ∷ [])) behind without ≡ met (look_name lexeme place [] []) (one ∷ behind) other
-name_met lexeme place one behind without other = grind arith
-
 -- a collection's name is a name, and then what follows it
 pub name_due : (kind : Kind) (items tags : ℕ) (behind : List Expected) (spots : List Spot)
     → run (front kind items tags ∷ behind) spots ≡ run (a_name ∷ front_named kind items tags (front_of spots).1 ∷ behind) spots
 name_due kind items tags behind spots = grind arith
 
-spelled_place : (name : Name) (before after : List Spot) → Spells (named (named_of name) ∷ []) before after → (front_of before).1 ≡ name.place
-spelled_place name before after spells = grind arith
-
 pub front_name : (kind : Kind) (items tags : ℕ) (name : Name) (before after : List Spot) → Reads (a_name ∷ []) [] (named (named_of name) ∷ []) before after
     → Reads (front kind items tags ∷ []) (front_named kind items tags name.place ∷ []) (named (named_of name) ∷ []) before after
-front_name kind items tags name before after read = grind (arith, name_due, spelled_place)
+front_name kind items tags name before after read = grind (arith, name_due)
 
 pub front_stops : (kind : Kind) (items tags : ℕ) (before after : List Spot) (cause : Stop) → Stops (a_name ∷ []) before after cause → Stops (front kind items tags ∷ []) before after cause
 front_stops kind items tags before after cause stops = grind (arith, name_due)
@@ -86,15 +70,6 @@ related_stops kind items tags name before middle late after cause begins closed 
 -- no limit is passed
 pub none_passed : (one names components counts more : List Position) → one ≡ [] → names ≡ [] → components ++ counts ≡ [] → one ++ ((names ++ components) ++ counts) ++ more ≡ more
 none_passed one names components counts more no_one no_names none = rw (no_one, no_names, none) refl
-
-pub declaration_begun : {first : Expected} {expected : List Expected} {piece : Piece} {items tags more_items more_tags : ℕ} {tree : Declared} {before middle after : List Spot}
-    → Reads (first ∷ []) expected (piece ∷ []) before middle → IsDeclarationRest expected (piece ∷ []) items tags more_items more_tags tree middle after
-    → IsDeclarationRest (first ∷ []) [] items tags more_items more_tags tree before after
-declaration_begun begun read = grind (arith, spelled_on)
-
-pub relation_begun : {first : Expected} {expected more : List Expected} {piece : Piece} {limits : List Position} {tree : Related} {before middle after : List Spot}
-    → Reads (first ∷ []) expected (piece ∷ []) before middle → IsRelationRest expected more (piece ∷ []) limits tree middle after → IsRelationRest (first ∷ []) more [] limits tree before after
-relation_begun begun read = grind (arith, spelled_on)
 
 -- a declaration or a relation after its first token, which is a piece of either
 pub front_begun : (it : Front) {first : Expected} {expected : List Expected} {one two : Piece} (items tags : ℕ) {before middle : List Spot} (after : List Spot)

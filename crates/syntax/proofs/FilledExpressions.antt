@@ -16,7 +16,6 @@ use Rattle.syntax.proofs.Onward.{same_outermost, negating_pieces, bracketing_pie
 use Rattle.syntax.proofs.Tellings.{its_depth, within_it}
 use Rattle.syntax.proofs.Lost.{EndsDeep}
 use Rattle.syntax.proofs.Fillings.{◌▸◌, Fits, Ends, EndsOperand, EndsBehind, Filling, filling_pieces, Fillings, fillings_pieces}
-use Rattle.syntax.proofs.Behind.{class, is_expression, follows}
 use Rattle.syntax.proofs.Turns.{is_known, fits, Begins, Turn, takes, skips, fails, loses}
 
 -- a filling that begins with this token, and goes on with `rest`
@@ -56,15 +55,11 @@ goes_broken state spot place same = grind arith
 -- a sign after which an operand comes still
 goes_awaits : (state more : Expression) (it : Symbol) (place : Position) → ((expr : Expr) → Fits (outermost more.level more.outer) expr → Fits (outermost state.level state.outer) expr)
     → state_pieces more ≡ state_pieces state ++ at place (symbol it) ∷ [] → Goes state (symbol it, place) (awaits more)
-goes_awaits state more it place fit spelled = grind (arith, fit, ends_as, one_behind)
-
--- a known token may be an operand
-fits_known : (first : Expected) (lexeme : Lexeme) (more : List Expected) → is_known lexeme ≡ true → follows (is_expression first) (class first) more ≡ true → fits first lexeme more ≡ true
-fits_known first lexeme more known may = rw known may
+goes_awaits state more it place fit spelled = grind (arith, one_behind)
 
 -- an operand that is one token
 goes_operand : (state : Expression) (unary : Unary) (piece : Piece) (spot : Spot) → is_known spot.0 ≡ true → unary_pieces unary ≡ piece ∷ [] → IsPiece piece spot → Goes state spot (read_operand state unary)
-goes_operand state unary piece spot known one is = grind (arith, ends_as, fits_known, fits_same, one_behind, operand_pieces, same_outermost)
+goes_operand state unary piece spot known one is = grind (arith, one_behind, operand_pieces, same_outermost)
 
 goes : (state : Expression) (lexeme : Lexeme) (place : Position) → Goes state (lexeme, place) (look_operand state place (head lexeme))
 goes state (symbol sign.Minus) place =

@@ -1,9 +1,9 @@
 -- What comes first in a text that begins with a letter or a digit.
-use Rattle.std.proofs.Common.{◌≡◌, ◌≢◌, ℕ, ℤ, pos, ◌+◌, ◌^◌, ◌<◌, ◌≤◌, Bool, true, ◌||◌, List, [], ◌∷◌, length, get_or, take, drop, Option, Result, MatchOption, refl, sym, subst, arith, one-add, take-append-drop, rules}
+use Rattle.std.proofs.Common.{◌≡◌, ◌≢◌, ℕ, ℤ, pos, ◌+◌, ◌<◌, ◌≤◌, Bool, true, ◌||◌, List, [], ◌∷◌, length, get_or, take, drop, Option, Result, MatchOption, refl, sym, subst, arith, one-add, take-append-drop, rules}
 use Rattle.std.specs.Int.{cast_signed, cast_unsigned, w64}
 use Rattle.std.proofs.lemmas.Int.{to_z-of_z}
 use Rattle.std.specs.List.{prefix_len}
-use Rattle.std.specs.Result.{OkIff, result_ok}
+use Rattle.std.specs.Result.{result_ok}
 use Rattle.std.specs.Str.Parse.{digits_value, ParsesSigned}
 use Rattle.std.proofs.lemmas.Bool.Decides.{nat_tests}
 use Rattle.std.proofs.lemmas.Str.Parse.{IsDigitsTest, IsNumeralModel, numerals_by_value}
@@ -61,17 +61,9 @@ digits_test = record {
 pub own : IsNumeralModel AreDigits (digits_value 10)
 own = numerals_by_value AreDigits digits_test
 
-some_length : (digits : List ℕ) → digits ≢ [] → 0 < length digits
-some_length [] some = absurd (some refl)
-some_length (first ∷ rest) some = omega arith
-
-number_by : {E : Type 0} (length' value : ℕ) (r : Result ℤ E) → 0 < length' → OkIff r ((0 < length') × (value < 2 ^ 63)) (pos value)
-    → MatchOption (result_ok r) (GREATEST < value) (λ (found : ℤ). (value ≤ GREATEST) × (found ≡ pos value))
-number_by length' value r some h = grind arith
-
 pub number_of : {E : Type 0} (digits : List ℕ) (r : Result ℤ E) (o : Option ℤ) → ParsesSigned w64 10 digits r → AreDigits digits → digits ≢ [] → o ≡ result_ok r
     → MatchOption o (GREATEST < digits_value 10 digits) (λ (found : ℤ). (digits_value 10 digits ≤ GREATEST) × (found ≡ pos (digits_value 10 digits)))
-number_of digits r o parses are some is = search (rules, number_by, own, some_length)
+number_of digits r o parses are some is = search (rules, own)
 
 -- a number of 64 bits keeps its value when it is passed on
 pub passed_on : (value : ℕ) (found : ℤ) → value ≤ GREATEST → found ≡ pos value → cast_signed w64 (cast_unsigned w64 found) ≡ pos value

@@ -5,9 +5,8 @@ use Rattle.syntax.specs.Grammar.{Position}
 use Rattle.syntax.specs.Expected.{Expected, Move, look, Next, on, met, next}
 use Rattle.syntax.proofs.Lost.{IsLost}
 use Rattle.syntax.proofs.Behind.{is_begun, chain, chain_rest, chain_on, fresh, fresh_rest}
-use Rattle.syntax.proofs.Turns.{Turn, takes, skips, fails, loses}
+use Rattle.syntax.proofs.Turns.{Turn}
 use Rattle.syntax.proofs.AllTurns.{turn}
-use Rattle.syntax.proofs.Walk.{may_be_put}
 
 abbrev pub BegunInFront : List Expected → Type 0
 BegunInFront stack = chain unknown stack ≡ true
@@ -16,7 +15,7 @@ BegunInFront stack = chain unknown stack ≡ true
 
 met_so : (first : Expected) (rest after : List Expected) (spot : Spot) (move : Move) (without : Next) → Turn first spot move → BegunInFront (first ∷ rest) → (without ≡ on after → BegunInFront after) → met move rest without ≡ on after
     → BegunInFront after
-met_so first rest after spot move without given only behind e = grind (arith, behind, chain_on, fails, loses, may_be_put, skips, takes)
+met_so first rest after spot move without given only behind e = grind (arith, chain_on)
 
 pub front_stays : (stack after : List Expected) (spot : Spot) → BegunInFront stack → next stack spot ≡ on after → BegunInFront after
 front_stays [] after spot only is = absurd (cc)
@@ -46,4 +45,4 @@ pub record LostFirst (place : Position) (stack : List Expected) : Type 0 where
   pub lost : IsLost place first
 
 pub lost_first : (place : Position) (stack : List Expected) → BegunInFront stack → LostAmong place stack → LostFirst place stack
-lost_first place stack only lost = grind (arith, chain_rest, fresh_rest, none_lost)
+lost_first place stack only lost = grind (arith, none_lost)

@@ -179,9 +179,6 @@ known_end comparing new stand = grind arith
 
 -- ---- the position of the first token
 
-place_at : (position : Position) (lexeme : Lexeme) (pieces : List Piece) (all later : List Spot) → Spells (at position lexeme ∷ pieces) all later → (front_of all).1 ≡ position
-place_at position lexeme pieces all later spells = grind arith
-
 -- of the first of these pieces, behind which there are more
 unary_place : (unary : Unary) (more : List Piece) (all later : List Spot) → Spells (unary_pieces unary ++ more) all later → (front_of all).1 ≡ unary_first unary
 unary_place unary more all later spells = grind arith

@@ -42,4 +42,4 @@ one_listed pieces limits Known (first ∷ read) one reads known none within =
 pub next_spelled : {X : Type 0} {pieces : List X → List Piece} {limits : X → List Position} {Known : List X → Type 0} {from to : Expected} {start now : List Spot} (after : List Spot) (comma : List Piece) (spelled : X → List Piece)
     → ((first : X) (more : List X) (next : X) → pieces (first ∷ (more ++ next ∷ [])) ≡ pieces (first ∷ more) ++ (comma ++ spelled next)) → (it : Listed pieces limits Known from to start now)
     → Spells comma now after → (next : X) (end : List Spot) → Spells (spelled next) after end → Spells (pieces (it.first ∷ (it.more ++ next ∷ []))) start end
-next_spelled after comma spelled same it taken next end spells = grind (arith, spelled, same, spelled_on)
+next_spelled after comma spelled same it taken next end spells = grind (arith, spelled_on)

@@ -1,12 +1,11 @@
 -- An expression in which a limit is passed, or that is too deep: once it is whole nothing else is reported, whatever tokens come.
-use Rattle.std.proofs.Common.{◌≡◌, ◌≤◌, ◌<◌, Bool, if◌then◌else◌, List, [], ◌∷◌, Option, Some, None, refl, arith}
+use Rattle.std.proofs.Common.{◌≡◌, ◌<◌, Bool, if◌then◌else◌, List, [], ◌∷◌, Option, Some, None, arith}
 use Rattle.std.specs.Prelude.{⊤}
 use Rattle.syntax.specs.declared.limits.TheConstants.{MOST_DEPTH}
 use Rattle.syntax.specs.Tokens.{Lexeme, Spot, unknown}
-use Rattle.syntax.specs.Grammar.{Position, Sum, Prod, Unary, Multiplication, Addition, Comparison}
-use Rattle.syntax.specs.Limits.{expr_depth, sum_depth, prod_depth}
-use Rattle.syntax.specs.Expected.{Comparing, possible, behind_left, Level, Expression, level_expr, sum_of, compared_of, product_of, negated_by, product_behind}
-use Rattle.syntax.specs.Expected.{without_product, broken_off, finished}
+use Rattle.syntax.specs.Grammar.{Position, Prod, Unary, Multiplication, Addition, Comparison}
+use Rattle.syntax.specs.Limits.{expr_depth}
+use Rattle.syntax.specs.Expected.{Comparing, Level, Expression, level_expr, sum_of, product_of}
 use Rattle.syntax.specs.Expected.{Joint, Head, look_operand, look_behind, look_end, look_close, look_comparison}
 use Rattle.syntax.specs.Expected.{Expected, operand, behind_operand, Move, taken, left_out, wrong, passed, within, Next, met, followed, ended, Verdict, accepted, syntax, too_large}
 use Rattle.syntax.proofs.Tellings.{Sooner, its_depth, within_it, of_whole, broken, chosen, whole_or_broken, changed, look_so, next_so, run_so}
@@ -23,29 +22,15 @@ abbrev pub EndsDeep : Level → List (Level × Position) → Prod → Type 0
 EndsDeep level [] prod = MOST_DEPTH < expr_depth (level_expr level prod)
 EndsDeep level (around ∷ outer) prod = WaitsDeep around.0 outer
 
-deeper_sum : (waits : Option (Sum × Addition)) (one two : Prod) → prod_depth one ≤ prod_depth two → sum_depth (sum_of waits one) ≤ sum_depth (sum_of waits two)
-deeper_sum waits one two le = grind arith
-
-deeper_compared : (comparing : Comparing) (one two : Sum) → sum_depth one ≤ sum_depth two → expr_depth (compared_of comparing one) ≤ expr_depth (compared_of comparing two)
-deeper_compared comparing one two le = grind arith
-
 deep_negating : (level : Level) (outer : List (Level × Position)) (negations : List Position) → WaitsDeep level outer → WaitsDeep (record level { negations = negations }) outer
 deep_negating level [] negations deep = deep
 deep_negating level (around ∷ outer) negations deep = deep
 
-deep_read : (level : Level) (outer : List (Level × Position)) (unary : Unary) → WaitsDeep level outer
-    → EndsDeep (record level { product = None; negations = [] }) outer (product_of level.product (negated_by level.negations unary))
-deep_read level outer unary deep = grind arith
-
 deep_product : (level : Level) (outer : List (Level × Position)) (prod : Prod) (how : Multiplication) → EndsDeep level outer prod → WaitsDeep (record level { product = Some (prod, how) }) outer
-deep_product level outer prod how deep = grind (arith, deeper_compared, deeper_sum)
+deep_product level outer prod how deep = grind arith
 
 deep_sum : (level : Level) (outer : List (Level × Position)) (prod : Prod) (how : Addition) → EndsDeep level outer prod → WaitsDeep (record level { sum = Some (sum_of level.sum prod, how) }) outer
-deep_sum level outer prod how deep = grind (arith, deeper_compared)
-
-deep_comparison : (level : Level) (outer : List (Level × Position)) (prod : Prod) (how : Comparison) → level.comparing ≡ possible → EndsDeep level outer prod
-    → WaitsDeep (record level { comparing = behind_left (sum_of level.sum prod) how; sum = None }) outer
-deep_comparison level outer prod how may deep = grind arith
+deep_sum level outer prod how deep = grind arith
 
 -- ---- what is lost
 
@@ -61,7 +46,7 @@ Lost sooner place _ = ⊥
 
 lost_on : {one two : Type 0} (sooner : Sooner) (place : Position) (from to : Expression) → (one → two) → to.first ≡ from.first → (from.passed ≡ Some place → to.passed ≡ Some place) → LostBy sooner place one from
     → LostBy sooner place two to
-lost_on sooner place from to deep first noted lost = grind (arith, deep, noted)
+lost_on sooner place from to deep first noted lost = grind arith
 
 abbrev pub IsLost : Position → Expected → Type 0
 IsLost place first = (sooner : Sooner) × Lost sooner place first
@@ -78,30 +63,13 @@ LostMove sooner place left_out = ⊥
 LostMove sooner place wrong = ⊤
 LostMove sooner place (passed other) = other ≡ place
 
-lost_broken : (sooner : Sooner) (place : Position) (before : Option Position) → LostMove sooner place (changed (broken (of_whole sooner)) (broken_off before))
-lost_broken sooner place before = grind arith
-
-lost_read : (sooner : Sooner) (place : Position) (state : Expression) (unary : Unary) → Lost sooner place (operand state) → Lost sooner place (behind_operand (without_product state) (product_behind state unary))
-lost_read sooner place state unary lost = lost_on sooner place state (without_product state) (deep_read state.level state.outer unary) refl (λ same. same) lost
-
 lost_operand : (sooner : Sooner) (place : Position) (state : Expression) (at : Position) (it : Head) → Lost sooner place (operand state) → LostMove sooner place (changed (broken (of_whole sooner)) (look_operand state at it))
-lost_operand sooner place state at it lost = grind (arith, deep_negating, lost_broken, lost_on, lost_read)
+lost_operand sooner place state at it lost = grind (arith, deep_negating)
 
 -- what is reported of a whole expression: `deep` if it is too deep, `before` is the first limit within it
 abbrev told : Sooner → Position → Bool → Option Position → Position → Type 0
 told sooner place deep before first =
     LostMove sooner place (changed (chosen sooner before) (within (if deep then first ∷ [] else []) (elim before [ None ↦ left_out | Some other ↦ passed other ])))
-
-told_within : (deep : Bool) (place first : Position) → told within_it place deep (Some place) first
-told_within deep place first = grind arith
-
-lost_finished : (sooner : Sooner) (place : Position) (state : Expression) (prod : Prod) → state.outer ≡ [] → Lost sooner place (behind_operand state prod)
-    → LostMove sooner place (changed (chosen sooner state.passed) (finished state (level_expr state.level prod)))
-lost_finished sooner place state prod none lost = grind arith
-
-lost_inside : (sooner : Sooner) (place : Position) (around : Level × Position) (outer : List (Level × Position)) (before other : Option Position)
-    → LostMove sooner place (changed (whole_or_broken (of_whole sooner) (around ∷ outer) before) (broken_off other))
-lost_inside sooner place around outer before other = grind arith
 
 lost_end : (sooner : Sooner) (place : Position) (state : Expression) (outer : List (Level × Position)) (prod : Prod) → state.outer ≡ outer → Lost sooner place (behind_operand state prod)
     → LostMove sooner place (changed (whole_or_broken (of_whole sooner) outer state.passed) (look_end state outer prod))
@@ -135,7 +103,7 @@ at_end sooner place move rest without lost = grind arith
 
 at_token : (sooner : Sooner) (place : Position) (move : Move) (rest : List Expected) (without : Next) (here spots : List Spot) → LostMove sooner place move
     → ((first : Expected) → Lost sooner place first → TellsOnly place (run_so (of_whole sooner) (first ∷ rest) spots)) → TellsOnly place (followed (met move rest without) here (λ after. run_so (of_whole sooner) after spots))
-at_token sooner place move rest without here spots lost later = grind (arith, later)
+at_token sooner place move rest without here spots lost later = grind arith
 
 pub lost_tells : (spots : List Spot) (sooner : Sooner) (place : Position) (first : Expected) (rest : List Expected) → Lost sooner place first → TellsOnly place (run_so (of_whole sooner) (first ∷ rest) spots)
 lost_tells [] sooner place first rest lost = at_end sooner place (look_so (of_whole sooner) first unknown 0) rest (next_so (of_whole sooner) rest (unknown, 0)) (lost_look sooner place first unknown 0 lost)

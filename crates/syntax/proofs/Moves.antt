@@ -75,4 +75,4 @@ passed_one (suc n) (token ∷ tokens) = passed_one n tokens
 -- one token, and what may come in its place
 pub taken_one : (first : Expected) (more : List Expected) (piece : Piece) (before after : List Spot) → (front_of before).0 ≢ unknown → after ≡ behind_front before
     → look first (front_of before).0 (front_of before).1 ≡ taken more → IsPiece piece (front_of before) → Reads (first ∷ []) more (piece ∷ []) before after
-taken_one first more piece before after there moved looks is = grind (arith, spelled_one, took)
+taken_one first more piece before after there moved looks is = grind arith

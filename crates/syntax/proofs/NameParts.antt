@@ -48,7 +48,7 @@ none_behind most names few = ap (map (λ (it : Named). it.1)) (drop_all most nam
 
 -- whether there is room for one more
 pub full_names : (most count : ℕ) (full : Bool) → (full ≡ true → most ≤ count) → (full ≡ false → count < most) → IsFull full (λ place. one_more most count place)
-full_names most count full many few = grind (arith, many, few)
+full_names most count full many few = grind arith
 
 -- ---- the names of components
 

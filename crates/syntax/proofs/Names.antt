@@ -1,11 +1,9 @@
 -- The limits at names one after another, and the limit on their number.
 use Rattle.std.proofs.Common.{◌≡◌, ℕ, suc, ◌-◌, arith, List, [], ◌∷◌, ◌++◌, refl, sym, ap, ◌∙◌}
 use Rattle.std.specs.List.{flat_map}
-use Rattle.std.proofs.lemmas.Bool.{ltb-false}
 use Rattle.std.proofs.lemmas.List.{append_assoc}
 use Rattle.syntax.specs.Grammar.{Position, Named}
 use Rattle.syntax.specs.Limits.{one_more, name_limits, names_behind}
-use Rattle.syntax.proofs.Partials.{few_more, too_many_more}
 use Rattle.syntax.proofs.Covers.{Covers, covers_same, covers_then, covers_on, covers_swap, covers_middle}
 use Rattle.syntax.proofs.Fillings.{each_limits, counted}
 
@@ -17,7 +15,7 @@ each_append limits before (it ∷ one) two =
 
 -- one more name, with `before` names before it
 behind_step : (most before : ℕ) (it : Named) (names : List Named) → names_behind (most - before) (it ∷ names) ≡ one_more most before it.1 ++ names_behind (most - suc before) names
-behind_step most before it names = grind (arith, few_more, ltb-false, too_many_more)
+behind_step most before it names = grind arith
 
 no_names_behind : (most : ℕ) → names_behind most [] ≡ []
 no_names_behind most = grind arith

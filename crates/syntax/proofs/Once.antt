@@ -1,7 +1,6 @@
 -- A text has at most one list of tokens.
 use Rattle.std.proofs.Common.{◌≡◌, ◌≢◌, ℕ, ◌+◌, ◌-◌, ◌<◌, ◌≤◌, Bool, true, false, ◌⊎◌, if◌then◌else◌, List, [], ◌∷◌, ◌++◌, length, inl, inr, refl, sym, ap, subst, ◌∙◌, arith}
 use Rattle.std.specs.Str.Parse.{digits_value}
-use Rattle.std.proofs.lemmas.Bool.Decides.{nat_tests}
 use Rattle.std.proofs.lemmas.List.{append-nil}
 use Rattle.syntax.specs.declared.token.Symbol.{Symbol}
 use Rattle.syntax.specs.Tokens.{AreBlank, AreDigits, AreTokens, Begins, BeginsNone, BeginsWithout, IsNumeral, IsTooLarge, IsWhole, IsWordText, Lexeme, name, number, word, symbol, unknown, Spot, Stands, is_blank, is_digit, is_letter, word_text, symbol_text}
@@ -12,13 +11,7 @@ use Rattle.syntax.proofs.Spelled.{same_word, same_symbol}
 -- ---- the first character
 
 digit_no_letter : (byte : ℕ) → is_digit byte ≡ true → is_letter byte ≡ false
-digit_no_letter byte h = grind (arith, nat_tests)
-
-letter_no_blank : (byte : ℕ) → is_letter byte ≡ true → is_blank byte ≡ false
-letter_no_blank byte h = grind (arith, nat_tests)
-
-digit_no_blank : (byte : ℕ) → is_digit byte ≡ true → is_blank byte ≡ false
-digit_no_blank byte h = grind (arith, nat_tests)
+digit_no_letter byte h = grind arith
 
 -- 0 for a letter, 1 for a digit, 2 for another character, and 3 for a blank or none
 abbrev lead : List ℕ → ℕ
@@ -63,7 +56,7 @@ abbrev Starts : List ℕ → Type 0
 Starts bytes = BeginsWithout is_blank bytes × (bytes ≢ [])
 
 starts : (lexeme : Lexeme) (bytes rest : List ℕ) → Stands lexeme bytes rest → Starts bytes
-starts lexeme bytes rest stands = grind (arith, digit_no_blank, leads, letter_no_blank)
+starts lexeme bytes rest stands = grind (arith, leads)
 
 -- ---- the first token
 

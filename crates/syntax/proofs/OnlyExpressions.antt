@@ -30,7 +30,7 @@ until_on stack more spot spots is = ap (λ (after : Next). stopped after (stack,
 -- an expression that is whole stops the machine
 stops : (deep : List Position) (before : Option Position) (here : Stopped) (later : List Expected → Stopped)
     → stopped (met (within deep (elim before [ None ↦ left_out | Some place ↦ passed place ])) [] nothing_left) here later ≡ here
-stops deep before here later = grind (arith, later)
+stops deep before here later = grind arith
 
 -- the expression that the machine holds
 abbrev held : Stopped → Expr

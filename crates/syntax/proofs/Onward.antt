@@ -9,15 +9,15 @@ use Rattle.syntax.specs.Limits.{expr_within, sum_within, prod_within, unary_with
 use Rattle.syntax.specs.Expected.{Comparing, never, possible, Level, Expression, Expected, operand, behind_operand, taken, look, earlier, negated_by, product_of, sum_of, compared_of, level_expr, product_behind}
 use Rattle.syntax.specs.Expected.{negating, bracketing, without_product, awaiting_product, awaiting_sum, awaiting_comparison, closed}
 use Rattle.syntax.specs.Front.{front_of, behind_front}
-use Rattle.syntax.specs.Partial.{read_so_far, IsClear, IsSumAlone, Onward, outermost, state_pieces, state_limits, level_limits, sum_limits_before, product_limits_before, comparison_limits_before, minus_pieces, sum_waiting, product_waiting, comparison_waiting}
+use Rattle.syntax.specs.Partial.{read_so_far, IsClear, IsSumAlone, Onward, outermost, state_pieces, state_limits, level_limits, sum_limits_before, comparison_limits_before, minus_pieces, sum_waiting, product_waiting, comparison_waiting}
 use Rattle.syntax.proofs.Covers.{both_none}
-use Rattle.syntax.proofs.Moves.{took, spelled_one, spelled_on}
+use Rattle.syntax.proofs.Moves.{spelled_on}
 
 -- one more token
 pub onward_one : (from to : Expected) (piece : Piece) (before after : List Spot) → (front_of before).0 ≢ unknown → after ≡ behind_front before
     → look from (front_of before).0 (front_of before).1 ≡ taken (to ∷ []) → IsPiece piece (front_of before) → read_so_far to ≡ read_so_far from ++ piece ∷ []
     → (IsClear from → IsClear to) → (IsSumAlone from → IsSumAlone to) → Onward from to before after
-onward_one from to piece before after there moved looks is spelled clear alone = grind (arith, clear, alone, spelled_on, spelled_one, took)
+onward_one from to piece before after there moved looks is spelled clear alone = grind (arith, spelled_on)
 
 -- ---- pieces
 
@@ -68,9 +68,6 @@ pub negated_within : (n : ℕ) (positions : List Position) (unary : Unary) → u
 negated_within n [] unary = refl
 negated_within n (position ∷ positions) unary = negated_within n positions (negated position unary)
 
-pub product_within : (n : ℕ) (waits : Option (Prod × Multiplication)) (unary : Unary) → prod_within n (product_of waits unary) ≡ product_limits_before n waits ++ unary_within n unary
-product_within n waits unary = grind arith
-
 pub added_within : (n : ℕ) (waits : Option (Sum × Addition)) (prod : Prod) → sum_within n (sum_of waits prod) ≡ sum_limits_before n waits ++ prod_within n prod
 added_within n waits prod = grind arith
 
@@ -88,11 +85,11 @@ pub clear_negating : (state : Expression) (place : Position) → IsClear (operan
 clear_negating state place clear = clear
 
 pub clear_bracketing : (state : Expression) (place : Position) → IsClear (operand state) → IsClear (operand (bracketing state place))
-clear_bracketing state place clear = grind (arith, append-nil, append_assoc, not_earlier)
+clear_bracketing state place clear = grind arith
 
 pub clear_operand : (state : Expression) (unary : Unary) → (state.passed ≡ None → unary_within (length state.outer) unary ≡ []) → (state.passed ≡ None → state_limits state ≡ [])
     → IsClear (behind_operand (without_product state) (product_behind state unary))
-clear_operand state unary within clear = grind (arith, within, clear, append-nil, append_assoc, negated_within, product_within)
+clear_operand state unary within clear = grind (arith, append-nil, append_assoc, negated_within)
 
 pub clear_awaiting_product : (state : Expression) (prod : Prod) (how : Multiplication) → state.level.product ≡ None → IsClear (behind_operand state prod) → IsClear (operand (awaiting_product state prod how))
 clear_awaiting_product state prod how none clear e = simp append_assoc (simp (none, append_assoc, append-nil) at (clear e))

@@ -28,7 +28,7 @@ negated_depth (position ∷ positions) unary = omega (arith, negated_depth posit
 
 pub negated_kept : (times depth : ℕ) (positions : List Position) (unary : Unary) (tree new : NamedExpression) → times ≤ MOST_DEPTH - depth → Counts (length positions) times
     → HoldsUnary unary (Kept tree depth) → (length positions ≡ times → IsUnary unary tree → IsUnary (negated_by positions unary) new) → HoldsUnary (negated_by positions unary) (Kept new (depth + times))
-negated_kept times depth positions unary tree new few given holds made = grind (arith, made, negated_depth)
+negated_kept times depth positions unary tree new few given holds made = grind (arith, negated_depth)
 
 pub negated_too_many : (times depth : ℕ) (positions : List Position) (unary : Unary) (tree : NamedExpression) → MOST_DEPTH - depth < times → Counts (length positions) times
     → HoldsUnary unary (Kept tree depth) → MOST_DEPTH < unary_depth (negated_by positions unary)

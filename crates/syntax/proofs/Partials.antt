@@ -1,5 +1,5 @@
 -- What the parser keeps of an expression.
-use Rattle.std.proofs.Common.{◌≡◌, ℕ, ◌≤◌, ◌<◌, suc, true, false, List, [], ◌∷◌, ◌++◌, length, reverse, refl, ap, ◌∙◌, arith, if◌then◌else◌, nat_lt, Option, rules, Vec, Global}
+use Rattle.std.proofs.Common.{◌≡◌, ℕ, ◌≤◌, ◌<◌, suc, true, false, List, [], ◌∷◌, ◌++◌, length, reverse, refl, ap, ◌∙◌, arith, if◌then◌else◌, nat_lt, rules, Vec, Global}
 use Rattle.std.proofs.lemmas.List.{reverse-append, length-reverse}
 use Rattle.syntax.specs.declared.limits.TheConstants.{MOST_BRACKETS}
 use Rattle.syntax.specs.declared.partial.Level.{Level as Kept_level}
@@ -8,7 +8,7 @@ use Rattle.syntax.specs.Grammar.{Position}
 use Rattle.syntax.specs.declared.limits.TheConstants.{MOST_NAME_BYTES}
 use Rattle.syntax.specs.Limits.{one_more, name_limits}
 use Rattle.syntax.specs.Tree.{AreAll}
-use Rattle.syntax.specs.Expected.{Level, Expression, opened, possible, bracketing, passing, earlier}
+use Rattle.syntax.specs.Expected.{Level, Expression, opened, possible, bracketing, passing}
 use Rattle.syntax.specs.Partial.{IsLevel, IsPartial}
 
 pub as_many : {X Y : Type 0} (Is : X → Y → Type 0) (xs : List X) (ys : List Y) → AreAll Is xs ys → length xs ≡ length ys
@@ -31,12 +31,9 @@ few_more most before place few = let less : nat_lt before most ≡ true = search
 pub too_many_more : (most before : ℕ) (place : Position) → most ≤ before → one_more most before place ≡ place ∷ []
 too_many_more most before place many = let not_less : nat_lt before most ≡ false = search rules in ap (λ b. if b then [] else place ∷ []) not_less
 
-pub earlier_same : (passed : Option Position) → earlier passed [] ≡ passed
-earlier_same passed = grind arith
-
 -- no limit is passed here
 pub not_passed : (state : Expression) (kept : Partial) (places : List Position) → places ≡ [] → IsPartial state kept → IsPartial (passing state places) kept
-not_passed state kept places none is = grind (arith, earlier_same)
+not_passed state kept places none is = grind arith
 
 pub bracket_opened : (state : Expression) (kept new : Partial) (place : Position) → IsPartial (passing state (one_more MOST_BRACKETS (length state.outer) place)) kept
     → new.first ≡ kept.first → new.passed ≡ kept.passed → IsLevel (opened possible) new.level → new.outer.items ≡ kept.outer.items ++ kept.level ∷ [] → IsPartial (bracketing state place) new

@@ -22,7 +22,7 @@ use Rattle.syntax.proofs.Lists.{flat_more, flat_none, all_more}
 -- one more after those
 spelled_more : {X : Type 0} (pieces : X → List Piece) (read : List X) (one : X) (rest : List Piece) (start now after : List Spot) → pieces one ≡ rest
     → Spells (flat_map pieces read) start now → Spells rest now after → Spells (flat_map pieces (read ++ one ∷ [])) start after
-spelled_more pieces read one rest start now after same first second = grind (arith, pieces, flat_more, spelled_on)
+spelled_more pieces read one rest start now after same first second = grind (arith, flat_more, spelled_on)
 
 pub one_declared : {items tags : ℕ} {trees : List Declared} {start now : List Spot} (more_items more_tags : ℕ) (tree : Declared) (after : List Spot) → AreDeclared items tags trees start now
     → IsDeclarationRest (declarations items tags ∷ []) [] items tags more_items more_tags tree now after → AreDeclared more_items more_tags (trees ++ tree ∷ []) start after

@@ -26,10 +26,7 @@ word_found : (kept : Word) → with_text word_text words (number_of (word_text k
 word_found kept = grind arith
 
 pub same_word : (one two : Word) → word_text one ≡ word_text two → one ≡ two
-same_word one two same = grind (arith, word_found)
-
-symbol_found : (sign : Symbol) → with_text symbol_text symbols (number_of (symbol_text sign)) ≡ Some sign
-symbol_found sign = grind arith
+same_word one two same = grind arith
 
 pub same_symbol : (one two : Symbol) → symbol_text one ≡ symbol_text two → one ≡ two
-same_symbol one two same = grind (arith, symbol_found)
+same_symbol one two same = grind arith

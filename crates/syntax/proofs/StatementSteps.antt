@@ -8,21 +8,19 @@ use Rattle.steptree.specs.Tree as block
 use Rattle.syntax.specs.declared.part.Beginning.{Beginning}
 use Rattle.syntax.specs.declared.part.Beginning.TheVariants as beginning
 use Rattle.syntax.specs.declared.stop.Stop.{Stop}
-use Rattle.syntax.specs.declared.token.Word.{Word}
 use Rattle.syntax.specs.declared.token.Word.TheVariants as kept
-use Rattle.syntax.specs.Tokens.{name, word, Spot}
-use Rattle.syntax.specs.Grammar.{Position, Expr, Statement, assigned, if_alone, if_else, Put, put_item, put_tag}
+use Rattle.syntax.specs.Tokens.{word, Spot}
+use Rattle.syntax.specs.Grammar.{Expr, Statement, assigned, if_alone, if_else, Put, put_item, put_tag}
 use Rattle.syntax.specs.Limits.{statement_limits, statements_limits}
 use Rattle.syntax.specs.Spelled.{plain, a_word, in_braces_at, condition_pieces, put_pieces, statement_pieces, statements_pieces}
 use Rattle.syntax.specs.Tree.{IsStatement, AreStatements, AreAll}
-use Rattle.syntax.specs.Expected.{Part, reading, writing, Expected, keyword, statements, or_else, look, taken, within, Next, met, run}
+use Rattle.syntax.specs.Expected.{Part, reading, writing, Expected, keyword, statements, or_else, run}
 use Rattle.syntax.specs.Front.{front_of}
 use Rattle.syntax.specs.Blocks.{IsAssignment}
 use Rattle.syntax.specs.Parsed.{Goes, Reads, Tells, Stops, named_of}
-use Rattle.syntax.specs.Statements.{Own, own_rest, own_pieces, own_limits, is_own, Begins, assignment_expected, choice_expected, repetition_expected, own_expected, IsFirst, IsStatementRead, IsChoiceRead}
+use Rattle.syntax.specs.Statements.{Own, own_pieces, own_limits, is_own, Begins, assignment_expected, choice_expected, repetition_expected, own_expected, IsFirst, IsStatementRead, IsChoiceRead}
 use Rattle.syntax.specs.Statements.{IsConditionRead, IsNestedRead, Second, second_pieces, second_limits, IsSecond, IsSecondRead, NoneBegins, statements_of, StatementsSoFar, AreRead}
-use Rattle.syntax.proofs.Moves.{◌⨟◌, took, reads_on}
-use Rattle.syntax.proofs.Forward.{known}
+use Rattle.syntax.proofs.Moves.{◌⨟◌, reads_on}
 use Rattle.syntax.proofs.Lists.{flat_more, flat_none, all_more}
 
 -- ---- parts of a statement
@@ -62,18 +60,6 @@ choice_read {part} {around} {value} {one} {two} {first_tree} {second_tree} {othe
 abbrev pub MayBegin : Part → ℕ → List Expected → List Spot → Type 0
 MayBegin part around expected spots = Goes (statements part around ∷ []) (expected ++ statements part around ∷ []) spots spots
 
-same_limits : (limits : List Position) (more rest : List Expected) (one two : Next) → met (within limits (taken more)) rest one ≡ met (within (limits ++ []) (taken [])) (more ++ rest) two
-same_limits limits more rest one two = grind arith
-
-assignment_begins : (part : Part) (around : ℕ) (spots : List Spot) (text : List ℕ) → (front_of spots).0 ≡ name text → MayBegin part around assignment_expected spots
-assignment_begins part around spots text is = grind arith
-
--- a word that is taken by itself
-word_begins : (part : Part) (around : ℕ) (it : Word) (more : List Expected) (spots : List Spot) → (front_of spots).0 ≡ word it
-    → look (statements part around) (word it) (front_of spots).1 ≡ taken (more ++ statements part around ∷ [])
-    → look (keyword it) (word it) (front_of spots).1 ≡ taken [] → MayBegin part around (keyword it ∷ more) spots
-word_begins part around it more spots is looks takes = grind (arith, known, took)
-
 -- what is expected of a statement that begins so
 abbrev pub expected_of : Part → ℕ → Beginning → List Expected
 expected_of part around beginning.Assignment = assignment_expected
@@ -82,23 +68,13 @@ expected_of part around beginning.Repetition = repetition_expected part around
 expected_of part around beginning.Own = own_expected part
 expected_of part around beginning.Other = []
 
-pub may_begin : (part : Part) (around : ℕ) (it : Beginning) (spots : List Spot) → Begins part (front_of spots).0 it → MayBegin part around (expected_of part around it) spots
-may_begin part around beginning.Assignment spots is = assignment_begins part around spots is.0 is.1
-may_begin reading around beginning.Choice spots is = word_begins reading around kept.If (drop 1 (choice_expected reading around)) spots is refl refl
-may_begin reading around beginning.Repetition spots is = word_begins reading around kept.For (drop 1 (repetition_expected reading around)) spots is refl refl
-may_begin reading around beginning.Own spots is = word_begins reading around kept.Get (own_rest reading) spots is refl refl
-may_begin part around beginning.Choice spots is = word_begins part around kept.If (drop 1 (choice_expected part around)) spots is refl refl
-may_begin part around beginning.Repetition spots is = word_begins part around kept.For (drop 1 (repetition_expected part around)) spots is refl refl
-may_begin part around beginning.Own spots is = word_begins part around kept.Put (own_rest part) spots is refl refl
-may_begin part around beginning.Other spots is = λ behind. refl
-
 same_run : (part : Part) (around : ℕ) (it : Beginning) (behind : List Expected) (before : List Spot) → Begins part (front_of before).0 it
     → run (statements part around ∷ behind) before ≡ run (expected_of part around it ++ (statements part around ∷ behind)) before
-same_run part around it behind before begins = grind (arith, append_assoc, may_begin)
+same_run part around it behind before begins = grind arith
 
 pub one_statement : {part : Part} {around : ℕ} {tree : NamedBlock} {before after : List Spot} (it : Beginning) → Begins part (front_of before).0 it
     → IsStatementRead part around (expected_of part around it) [] tree before after → IsStatementRead part around (statements part around ∷ []) (statements part around ∷ []) tree before after
-one_statement it begins read = grind (arith, same_run)
+one_statement it begins read = grind arith
 
 pub statement_stops : (part : Part) (around : ℕ) (it : Beginning) (before after : List Spot) (cause : Stop) → Begins part (front_of before).0 it → Stops (expected_of part around it) before after cause
     → Stops (statements part around ∷ []) before after cause
@@ -136,7 +112,7 @@ own_weaker writing put _ P Q weaker is = absurd is
 
 statement_weaker : (part : Part) (statement : Statement (Own part)) (tree : NamedBlock) (P Q : NamedBlock → Type 0) → ((other : NamedBlock) → P other → Q other)
     → IsStatement (is_own part) statement tree P → IsStatement (is_own part) statement tree Q
-statement_weaker part statement tree P Q weaker is = grind (arith, P, Q, weaker, own_weaker)
+statement_weaker part statement tree P Q weaker is = grind (arith, own_weaker)
 
 are_joined : (part : Part) (read : List (Statement (Own part))) (trees : List NamedBlock) → AreAll (IsFirst part) read trees → AreStatements (is_own part) (statements_of read) (joined trees block.End)
 are_joined part [] [] are = refl

@@ -74,7 +74,7 @@ same_next (first ∷ rest) spot =
 
 same_later : (it : Next) (here spots : List Spot) → ((stack : List Expected) → run_so as_told stack spots ≡ run stack spots)
     → followed it here (λ after. run_so as_told after spots) ≡ followed it here (λ after. run after spots)
-same_later it here spots later = grind (arith, later)
+same_later it here spots later = grind arith
 
 pub same_run : (spots : List Spot) (stack : List Expected) → run_so as_told stack spots ≡ run stack spots
 same_run [] stack = ap ended (same_next stack (unknown, 0))
@@ -87,7 +87,7 @@ as_the_machine one two first second same = sym (same_run one first) ∙ same ∙
 -- ---- the same tokens are taken
 
 met_on : (change : Position → Move) (move : Move) (rest more : List Expected) (one other : Next) → (one ≡ on more → other ≡ on more) → met move rest one ≡ on more → met (changed change move) rest other ≡ on more
-met_on change move rest more one other behind is = grind (arith, change, behind)
+met_on change move rest more one other behind is = grind arith
 
 pub next_on : (telling : Telling) (stack more : List Expected) (spot : Spot) → next stack spot ≡ on more → next_so telling stack spot ≡ on more
 next_on telling [] more spot is = is
@@ -98,9 +98,6 @@ pub run_on : (telling : Telling) (stack more : List Expected) (spot : Spot) (spo
 run_on telling stack more spot spots is = ap (λ (it : Next). followed it (spot ∷ spots) (λ after. run_so telling after spots)) (next_on telling stack more spot is)
 
 -- ---- where no expression is expected
-
-unchanged : (move : Move) → changed passed move ≡ move
-unchanged move = grind arith
 
 pub plain_so : (telling : Telling) (first : Expected) (lexeme : Lexeme) (place : Position) → is_expression first ≡ false → look_so telling first lexeme place ≡ look first lexeme place
 plain_so telling first lexeme place plain = grind arith

@@ -50,7 +50,7 @@ word_found : (it : Word) → slice_get words (word_number it) ≡ Some it
 word_found it = grind arith
 
 pub same_word : (it other : Word) → (word_number it == word_number other) ≡ true → word other ≡ word it
-same_word it other same = grind (arith, word_found)
+same_word it other same = grind arith
 
 abbrev pub turn_sign : (it other : Symbol) (place : Position) (same : Bool) → (sign_number it == sign_number other) ≡ same → Turn (exactly it) (symbol other, place) (is_taken same)
 turn_sign it other place true same = takes [] [] (λ later. tt) refl refl (λ later. (plain (symbol it), same_sign it other same, refl))

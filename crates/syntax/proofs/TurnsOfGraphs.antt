@@ -41,15 +41,15 @@ abbrev pub one_relation : Relation → RelationsAndSteps → RelationsAndSteps
 one_relation relation them = record { relations = relation ∷ them.relations; steps = them.steps }
 
 pub relation_behind : (relation : Relation) (them : RelationsAndSteps) (pieces : List Piece) → relation_pieces relation ≡ pieces → relations_and_steps (one_relation relation them) ≡ pieces ++ relations_and_steps them
-relation_behind relation them pieces same = grind (arith, append_assoc)
+relation_behind relation them pieces same = grind arith
 
 pub by_step_spelled : (kind : Kind) (place : Position) (step it : Named) (them : RelationsAndSteps) → relations_and_steps (one_relation (put_by_step place step kind it) them)
     ≡ at place (symbol sign.OpenRound) ∷ named step ∷ plain (symbol sign.CloseRound) ∷ plain (symbol sign.Arrow) ∷ (collection_pieces kind it ++ (plain (symbol sign.Semicolon) ∷ (relations_and_steps them ++ [])))
-by_step_spelled kind place step it them = grind (arith, append-nil, relation_behind)
+by_step_spelled kind place step it them = grind (arith, append-nil)
 
 pub by_environment_spelled : (kind : Kind) (place : Position) (it : Named) (them : RelationsAndSteps) → relations_and_steps (one_relation (put_by_environment place kind it) them)
     ≡ at place (word kept.Env) ∷ plain (symbol sign.Arrow) ∷ (collection_pieces kind it ++ (plain (symbol sign.Semicolon) ∷ (relations_and_steps them ++ [])))
-by_environment_spelled kind place it them = grind (arith, append-nil, relation_behind)
+by_environment_spelled kind place it them = grind (arith, append-nil)
 
 abbrev pub turn_relation : (lexeme : Lexeme) (place : Position) → Turn relations (lexeme, place) (look_relation lexeme)
 turn_relation (symbol sign.OpenRound) place =

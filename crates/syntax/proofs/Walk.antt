@@ -80,7 +80,7 @@ opening first filling rest back all later plain_one chained spells = opening_by 
 pub spelled_behind : (first : Expected) (rest more : List Expected) (made : Fillings more → Filling first) (filling : Filling first) (later : Fillings more) (back : Fillings rest) (spot : Spot) (spots end : List Spot)
     → Begins spot (filling_pieces first (made later)) (fillings_pieces more later) → made later ≡ filling → Spells (filling_pieces first filling ++ fillings_pieces rest back) (spot ∷ spots) end
     → Spells (fillings_pieces (more ++ rest) (joined more rest later back)) spots end
-spelled_behind first rest more made filling later back spot spots end begun same spells = grind (arith, made, joined_row)
+spelled_behind first rest more made filling later back spot spots end begun same spells = grind (arith, joined_row)
 
 -- ---- the induction
 

@@ -1,6 +1,5 @@
 -- On the way through an expression, and at its end.
 use Rattle.std.proofs.Common.{◌≡◌, ◌<◌, ◌≤◌, List, [], ◌∷◌, ◌++◌, length, refl, sym, ap, subst, ◌∙◌, arith, Option, Some, None, append_assoc, Bool, true, false}
-use Rattle.std.proofs.lemmas.List.{append-nil}
 use Rattle.steptree.specs.Tree.{NamedExpression}
 use Rattle.syntax.specs.declared.operand.Operand.{Operand}
 use Rattle.syntax.specs.declared.partial.Partial.{Partial}
@@ -12,13 +11,9 @@ use Rattle.syntax.specs.Spelled.{expr_pieces}
 use Rattle.syntax.specs.Expected.{Comparing, never, possible, Expression, Expected, whole, operand, behind_operand, Move, finished, level_expr, begun, run, look, sum_of, compared_of}
 use Rattle.syntax.specs.Front.{front_of}
 use Rattle.syntax.specs.Parsed.{Spells, Tells, Stops}
-use Rattle.syntax.specs.Partial.{HoldsProd, IsPartial, HoldsExpr, IsBehind, IsWhole, IsFresh, comparison_may_come, outermost, Follows, Onward, read_so_far, state_limits}
+use Rattle.syntax.specs.Partial.{HoldsProd, IsPartial, HoldsExpr, IsBehind, IsWhole, IsFresh, comparison_may_come, outermost, Follows, read_so_far, state_limits}
 use Rattle.syntax.specs.Whole.{From, Reached, IsExpression, IsWithinLimits, TellsLimit}
 use Rattle.syntax.proofs.Moves.{skipped}
-use Rattle.syntax.proofs.Onward.{compared_pieces, added_pieces, compared_within, added_within}
-
-pub from_on : (comparing : Comparing) (from to : Expected) (start now after : List Spot) → From comparing from start now → Onward from to now after → From comparing to start after
-from_on comparing from to start now after way step = grind arith
 
 -- from any place on the way to the next one
 reached_on : (comparing : Comparing) (from : Expected) (start now after : List Spot) (product : Option Operand) (new : Partial) → From comparing from start now → length now ≤ length start → Follows from now after product new
@@ -39,10 +34,10 @@ product_on comparing start now after product more old new reached follows fewer 
 -- ---- the end
 
 whole_pieces : (state : Expression) (prod : Prod) → state.outer ≡ [] → IsBehind state → read_so_far (behind_operand state prod) ≡ expr_pieces (level_expr state.level prod)
-whole_pieces state prod none nothing = grind (arith, added_pieces, append-nil, append_assoc, compared_pieces)
+whole_pieces state prod none nothing = grind (arith, append_assoc)
 
 whole_clear : (state : Expression) (prod : Prod) → state.outer ≡ [] → IsBehind state → state_limits state ++ prod_within (length state.outer) prod ≡ [] → expr_within 0 (level_expr state.level prod) ≡ []
-whole_clear state prod none nothing clear = grind (arith, added_within, append-nil, append_assoc, compared_within)
+whole_clear state prod none nothing clear = grind (arith, append_assoc)
 
 alone_sum : (comparing : Comparing) (sum : Sum) → comparing ≡ never → compared_of comparing sum ≡ sum_alone sum
 alone_sum comparing sum e = grind arith
