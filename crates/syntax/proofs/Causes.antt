@@ -6,13 +6,10 @@ use Rattle.syntax.specs.Grammar.{Position, GraphText}
 use Rattle.syntax.specs.Limits.{graph_limits, IsWithin}
 use Rattle.syntax.specs.Reading.{position_behind, IsSyntaxFault, IsLimitFault}
 use Rattle.syntax.specs.Expected.{Expected, Next, on, nothing_left, at_fault, limit_passed, next, ended, followed, Verdict, accepted, syntax, too_large, run, graph_expected}
-use Rattle.syntax.proofs.Tellings.{Telling, as_told, of_whole, run_so, same_run, run_on, as_the_machine}
+use Rattle.syntax.proofs.Tellings.{Telling, as_told, of_whole, run_so, same_run, run_on, as_the_machine, TellsOnly, lost_tells}
 use Rattle.syntax.proofs.Judged.{In, Judged, goes, breaks}
-use Rattle.syntax.proofs.JudgedFillings.{graph_judged, graph_told}
-use Rattle.syntax.proofs.Lost.{TellsOnly, lost_tells}
-use Rattle.syntax.proofs.InFront.{BegunInFront, front_stays, LostAmong, lost_first}
-use Rattle.syntax.proofs.Filled.{AllSound, all_sound}
-use Rattle.syntax.proofs.Completed.{Before, before_none, before_all, before_one, begins_graph}
+use Rattle.syntax.proofs.Walk.{graph_judged, graph_told}
+use Rattle.syntax.proofs.Completed.{BegunInFront, front_stays, LostAmong, lost_first, AllSound, all_sound, Before, before_none, before_all, before_one, begins_graph}
 
 -- the first token is the same, and so are the next `count` ones
 next_alike : (count : ℕ) (spot : Spot) (spots others : List Spot) → take (suc count) others ≡ take (suc count) (spot ∷ spots) → (more : List Spot) × (others ≡ spot ∷ more) × (take count more ≡ take count spots)

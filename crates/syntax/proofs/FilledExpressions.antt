@@ -12,9 +12,9 @@ use Rattle.syntax.specs.Limits.{name_limits, expr_depth}
 use Rattle.syntax.specs.Expected.{Comparing, never, possible, behind_left, Level, Expression, Expected, whole, operand, behind_operand, Move, taken, left_out, wrong, passed, within, begun, head, look, look_operand, broken_off, finished, level_expr, sum_of, compared_of, product_behind}
 use Rattle.syntax.specs.Expected.{negating, bracketing, passing, without_product, awaiting_product, awaiting_sum, awaiting_comparison, closed, look_end, look_close, look_comparison, awaits, read_operand}
 use Rattle.syntax.specs.Partial.{outermost, state_pieces, IsBehind}
-use Rattle.syntax.proofs.Onward.{same_outermost, negating_pieces, bracketing_pieces, operand_pieces, awaiting_product_pieces, awaiting_sum_pieces, awaiting_comparison_pieces, closing_pieces, added_pieces, compared_pieces}
-use Rattle.syntax.proofs.Tellings.{its_depth, within_it}
-use Rattle.syntax.proofs.Lost.{EndsDeep}
+use Rattle.syntax.proofs.Forward.{same_outermost, negating_pieces, bracketing_pieces, operand_pieces, awaiting_product_pieces, awaiting_sum_pieces, awaiting_comparison_pieces, closing_pieces}
+use Rattle.syntax.proofs.Forward.{added_pieces, compared_pieces}
+use Rattle.syntax.proofs.Tellings.{its_depth, within_it, EndsDeep}
 use Rattle.syntax.proofs.Fillings.{◌▸◌, Fits, Ends, EndsOperand, EndsBehind, Filling, filling_pieces, Fillings, fillings_pieces}
 use Rattle.syntax.proofs.Turns.{is_known, fits, Begins, Turn, takes, skips, fails, loses}
 

@@ -1,6 +1,7 @@
 -- The fillings of each thing that may come: what can stand there, the pieces that it spells and the limits that it passes.
 use Rattle.std.specs.Prelude.{◌≡◌, ⊤, ℕ, suc, List, [], ◌∷◌, ◌++◌, Option, Some, None}
 use Rattle.std.specs.List.{flat_map}
+use Rattle.std.proofs.Common.{◌≡◌, List, [], ◌∷◌, ◌++◌, refl, ap, sym, ◌∙◌, append_assoc}
 use Rattle.terms.specs.declared.key.TheConstants.{MAX_COMPONENTS}
 use Rattle.steptree.specs.declared.slot.TheConstants.{MOST_NAMES}
 use Rattle.steptree.specs.declared.sheet.TheConstants.{MOST_COLLECTIONS}
@@ -8,12 +9,12 @@ use Rattle.syntax.specs.declared.limits.TheConstants.{MOST_BRACES}
 use Rattle.syntax.specs.declared.token.Word.TheVariants as kept
 use Rattle.syntax.specs.declared.token.Symbol.TheVariants as sign
 use Rattle.syntax.specs.Grammar.{Position, Named, Expr, sum_alone, Sum, Prod, Sums, Statements, Put, put_item, put_tag, Names, Relation, StepText, GraphText}
-use Rattle.syntax.specs.Spelled.{Piece, named, a_sign, sign_at, a_word, expr_pieces, sum_pieces, prod_pieces, sums_pieces, item_pieces, tag_pieces, statements_pieces}
-use Rattle.syntax.specs.Spelled.{names_pieces, bracketed_name, angled_name, round_name, relation_pieces, parameters_pieces, variables_pieces, step_pieces, graph_pieces}
+use Rattle.syntax.specs.Spelled.{Piece, named, a_sign, sign_at, a_word, expr_pieces, sum_pieces, prod_pieces, sums_pieces, item_pieces, tag_pieces, statements_pieces, names_pieces, bracketed_name}
+use Rattle.syntax.specs.Spelled.{angled_name, round_name, relation_pieces, parameters_pieces, variables_pieces, step_pieces, graph_pieces}
 use Rattle.syntax.specs.Limits.{one_more, name_limits, sum_limits, expr_limits, sums_limits, put_limits, statements_limits, all_names, declarations_limits, relation_limits, steps_limits}
-use Rattle.syntax.specs.Expected.{Comparing, never, possible, behind_left, Expression, Kind, item, tag, closing, Part, Expected, declared_limits}
-use Rattle.syntax.specs.Expected.{exactly, keyword, a_name, whole, operand, behind_operand, components, more_components, statements, nested_brace, or_else, put_target, declarations, front, front_named, front_closed}
-use Rattle.syntax.specs.Expected.{component_name, behind_component, relations, reader, related, steps, step_name, parameters, parameter, behind_parameter, variables, step_variable, behind_variable}
+use Rattle.syntax.specs.Expected.{Comparing, never, possible, behind_left, Expression, Kind, item, tag, closing, Part, Expected, declared_limits, exactly, keyword, a_name, whole, operand}
+use Rattle.syntax.specs.Expected.{behind_operand, components, more_components, statements, nested_brace, or_else, put_target, declarations, front, front_named, front_closed, component_name}
+use Rattle.syntax.specs.Expected.{behind_component, relations, reader, related, steps, step_name, parameters, parameter, behind_parameter, variables, step_variable, behind_variable}
 use Rattle.syntax.specs.Statements.{Own, own_pieces, own_limits, Second, second_pieces, second_limits}
 use Rattle.syntax.specs.Partial.{outermost, state_pieces, comparison_waiting, IsBehind}
 
@@ -258,3 +259,39 @@ fillings_pieces stack fillings = in_row filling_pieces stack fillings
 
 abbrev pub fillings_limits : (stack : List Expected) → Fillings stack → List Position
 fillings_limits stack fillings = in_row filling_limits stack fillings
+
+-- ---- two lists of things in a row
+
+abbrev pub front_part : (more rest : List Expected) → Fillings (more ++ rest) → Fillings more
+front_part [] rest all = tt
+front_part (first ∷ more) rest all = all.first ▸ front_part more rest all.rest
+
+abbrev pub back_part : (more rest : List Expected) → Fillings (more ++ rest) → Fillings rest
+back_part [] rest all = all
+back_part (first ∷ more) rest all = back_part more rest all.rest
+
+pub parts_pieces : (more rest : List Expected) (all : Fillings (more ++ rest)) → fillings_pieces (more ++ rest) all ≡ fillings_pieces more (front_part more rest all) ++ fillings_pieces rest (back_part more rest all)
+parts_pieces [] rest all = refl
+parts_pieces (first ∷ more) rest all =
+    ap (λ (list : List Piece). filling_pieces first all.first ++ list) (parts_pieces more rest all.rest) ∙ sym (append_assoc (filling_pieces first all.first) _ _)
+
+abbrev pub joined : (more rest : List Expected) → Fillings more → Fillings rest → Fillings (more ++ rest)
+joined [] rest ahead back = back
+joined (first ∷ more) rest ahead back = ahead.first ▸ joined more rest ahead.rest back
+
+pub joined_row : {X : Type 0} (of : (expected : Expected) → Filling expected → List X) (more rest : List Expected) (ahead : Fillings more) (back : Fillings rest)
+    → in_row of (more ++ rest) (joined more rest ahead back) ≡ in_row of more ahead ++ in_row of rest back
+joined_row of [] rest ahead back = refl
+joined_row {X} of (first ∷ more) rest ahead back = ap (λ (list : List X). of first ahead.first ++ list) (joined_row of more rest ahead.rest back) ∙ sym (append_assoc (of first ahead.first) _ _)
+
+front_joined : (more rest : List Expected) (ahead : Fillings more) (back : Fillings rest) → front_part more rest (joined more rest ahead back) ≡ ahead
+front_joined [] rest ahead back = refl
+front_joined (first ∷ more) rest ahead back = ap (λ (later : Fillings more). ahead.first ▸ later) (front_joined more rest ahead.rest back)
+
+back_joined : (more rest : List Expected) (ahead : Fillings more) (back : Fillings rest) → back_part more rest (joined more rest ahead back) ≡ back
+back_joined [] rest ahead back = refl
+back_joined (first ∷ more) rest ahead back = back_joined more rest ahead.rest back
+
+pub parted : (more rest : List Expected) (one two : Fillings more) (three four : Fillings rest) → joined more rest one three ≡ joined more rest two four → (one ≡ two) × (three ≡ four)
+parted more rest one two three four same =
+    (sym (front_joined more rest one three) ∙ ap (front_part more rest) same ∙ front_joined more rest two four, sym (back_joined more rest one three) ∙ ap (back_part more rest) same ∙ back_joined more rest two four)

@@ -1,16 +1,17 @@
--- What the machine says of the tokens of an expression.
-use Rattle.std.proofs.Common.{◌≡◌, inl, suc, true, false, List, [], ◌∷◌, ◌++◌, length, Option, Some, None, refl, ap, subst, ◌∙◌, append_assoc, arith}
+-- What the machine says of the tokens of an expression, and that they are at most one.
+use Rattle.std.proofs.Common.{◌≡◌, inl, suc, true, false, List, [], ◌∷◌, ◌++◌, length, Option, Some, None, refl, ap, subst, ◌∙◌, append_assoc, arith, sym}
 use Rattle.std.proofs.lemmas.List.{append-nil}
-use Rattle.syntax.specs.declared.token.Symbol.TheVariants as sign
 use Rattle.syntax.specs.declared.limits.TheConstants.{MOST_BRACKETS}
+use Rattle.syntax.specs.declared.token.Symbol.TheVariants as sign
 use Rattle.syntax.specs.Tokens.{Lexeme, name, number, symbol, unknown, Spot}
-use Rattle.syntax.specs.Grammar.{Position, Comparison, equal, Addition, plus, minus, Multiplication, times}
-use Rattle.syntax.specs.Grammar.{Expr, sum_alone, compared, Sum, prod_alone, added, Prod, unary_alone, multiplied, Unary, negated, literal, variable, bracketed}
+use Rattle.syntax.specs.Grammar.{Position, Comparison, equal, Addition, plus, minus, Multiplication, times, Expr, sum_alone, compared, Sum, prod_alone, added, Prod, unary_alone, multiplied, Unary}
+use Rattle.syntax.specs.Grammar.{negated, literal, variable, bracketed}
 use Rattle.syntax.specs.Spelled.{Piece, plain, at, IsPiece, comparison_sign, addition_sign, multiplication_sign, a_sign, expr_pieces, sum_pieces, prod_pieces, unary_pieces}
 use Rattle.syntax.specs.Limits.{one_more, depth_limits, expr_depth, expr_first, sum_first, prod_first, unary_first, expr_within, sum_within, prod_within, unary_within}
 use Rattle.syntax.specs.Front.{front_of}
 use Rattle.syntax.specs.Parsed.{Spells}
-use Rattle.syntax.specs.Expected.{Comparing, never, possible, behind_left, Level, Expression, Expected, whole, operand, behind_operand, earlier, negated_by, product_of, sum_of, level_expr, opened, within, finished, Move, left_out, passed, met, on, next, followed, Verdict, look}
+use Rattle.syntax.specs.Expected.{Comparing, never, possible, behind_left, Level, Expression, Expected, whole, operand, behind_operand, earlier, negated_by, product_of, sum_of, level_expr, opened}
+use Rattle.syntax.specs.Expected.{within, finished, Move, left_out, passed, met, on, next, followed, Verdict, look, Next, nothing_left, at_fault, limit_passed}
 use Rattle.syntax.proofs.Tellings.{Telling, as_told, of_whole, its_depth, within_it, whole_or_broken, changed, next_so, run_so, run_on}
 use Rattle.syntax.proofs.Judged.{in_back, Judged, goes, breaks, judged_behind}
 use Rattle.syntax.proofs.Fillings.{Whole, whole_pieces, whole_limits}
@@ -238,3 +239,53 @@ whole_judged comparing it telling stack all (spot ∷ rest) new stand spells =
     ∙ ap (ended_so telling stack spot rest passed_in) (end_looks comparing it spot.0 passed_in (expr_first expr) spot.1 new stand)
     ∙ ap (λ (one : Expr). ended_so telling stack spot rest passed_in (finished (so_far passed_in (expr_first expr) (whole_level comparing it) []) one)) (whole_is comparing it)
     ) (told telling (depth_limits (expr_depth expr) (expr_first expr)) (expr_within 0 expr) stack spot rest))
+
+-- ---- at most one expression, before a token that may stand behind one: the machine gives it back
+
+abbrev Stopped : Type 0
+Stopped = List Expected × List Spot
+
+abbrev stopped : Next → Stopped → (List Expected → Stopped) → Stopped
+stopped (on more) here later = later more
+stopped nothing_left here later = here
+stopped at_fault here later = here
+stopped (limit_passed place) here later = here
+
+-- where the machine stops: what may come, and the tokens that are left
+abbrev until : List Expected → List Spot → Stopped
+until stack [] = (stack, [])
+until stack (spot ∷ spots) = stopped (next stack spot) (stack, spot ∷ spots) (λ more. until more spots)
+
+until_on : (stack more : List Expected) (spot : Spot) (spots : List Spot) → next stack spot ≡ on more → until stack (spot ∷ spots) ≡ until more spots
+until_on stack more spot spots is = ap (λ (after : Next). stopped after (stack, spot ∷ spots) (λ then_on. until then_on spots)) is
+
+-- an expression that is whole stops the machine
+stops : (deep : List Position) (before : Option Position) (here : Stopped) (later : List Expected → Stopped)
+    → stopped (met (within deep (elim before [ None ↦ left_out | Some place ↦ passed place ])) [] nothing_left) here later ≡ here
+stops deep before here later = grind arith
+
+-- the expression that the machine holds
+abbrev held : Stopped → Expr
+held (behind_operand state prod ∷ [], rest) = level_expr state.level prod
+held other = sum_alone (prod_alone (unary_alone (literal 0 0)))
+
+whole_stops : (comparing : Comparing) (it : Whole comparing) (all later : List Spot) → is_begun (whole comparing) ≡ false → stands (class (whole comparing)) (front_of later).0 ≡ true → Spells (whole_pieces comparing it) all later
+    → until (operand (so_far None 0 (opened comparing) []) ∷ []) all ≡ (behind_operand (so_far (earlier None (expr_within 0 (whole_expr comparing it))) 0 (whole_level comparing it) []) (whole_last comparing it) ∷ [], later)
+whole_stops comparing it all [] new stand spells = absurd (known_end comparing new stand)
+whole_stops comparing it all (spot ∷ rest) new stand spells =
+    let before = earlier None (expr_within 0 (whole_expr comparing it)) in
+    let stack = behind_operand (so_far before 0 (whole_level comparing it) []) (whole_last comparing it) ∷ [] in
+    whole_goes until until_on 0 comparing it [] all (spot ∷ rest) new spells
+    ∙ ap (λ (move : Move). stopped (met move [] nothing_left) (stack, spot ∷ rest) (λ more. until more rest)) (end_looks comparing it spot.0 before 0 spot.1 new stand)
+    ∙ stops (depth_limits (expr_depth (level_expr (whole_level comparing it) (whole_last comparing it))) 0) before (stack, spot ∷ rest) (λ more. until more rest)
+
+same_whole : (comparing : Comparing) (one two : Whole comparing) → is_begun (whole comparing) ≡ false → whole_expr comparing one ≡ whole_expr comparing two → one ≡ two
+same_whole never one two new same = cc
+same_whole possible one two new same = same
+same_whole (behind_left left how) one two new same = absurd (cc)
+
+pub whole_only : (comparing : Comparing) (one two : Whole comparing) (all later rest : List Spot) → is_begun (whole comparing) ≡ false → stands (class (whole comparing)) (front_of later).0 ≡ true
+    → stands (class (whole comparing)) (front_of rest).0 ≡ true → Spells (whole_pieces comparing one) all later → Spells (whole_pieces comparing two) all rest → (one ≡ two) × (later ≡ rest)
+whole_only comparing one two all later rest new stand also x y =
+    let same = sym (whole_stops comparing one all later new stand x) ∙ whole_stops comparing two all rest new also y in
+    (same_whole comparing one two new (sym (whole_is comparing one) ∙ ap held same ∙ whole_is comparing two), ap (λ (stop : Stopped). stop.1) same)

@@ -6,7 +6,7 @@ use Rattle.syntax.specs.declared.token.Symbol.{Symbol}
 use Rattle.syntax.specs.Tokens.{AreBlank, AreDigits, AreTokens, Begins, BeginsNone, BeginsWithout, IsNumeral, IsTooLarge, IsWhole, IsWordText, Lexeme, name, number, word, symbol, unknown, Spot, Stands, is_blank, is_digit, is_letter, word_text, symbol_text}
 use Rattle.syntax.proofs.Runs.{Passes, split_once}
 use Rattle.syntax.proofs.Fronts.{is_word_part}
-use Rattle.syntax.proofs.Spelled.{same_word, same_symbol}
+use Rattle.syntax.proofs.Signs.{same_word, same_symbol}
 
 -- ---- the first character
 

@@ -13,7 +13,7 @@ use Rattle.syntax.specs.Limits.{name_limits, one_more}
 use Rattle.syntax.specs.Expected.{Expected, exactly, keyword, Move, taken, left_out, wrong, passed, within, sign_number, word_number, is_taken, look, look_if, look_if_word, look_name}
 use Rattle.syntax.specs.Expected.{step_name_limits, parameters, behind_parameter, behind_variable}
 use Rattle.syntax.proofs.Signs.{same_number}
-use Rattle.syntax.proofs.Lost.{IsLost}
+use Rattle.syntax.proofs.Tellings.{IsLost}
 use Rattle.syntax.proofs.Fillings.{Filling, filling_pieces, Fillings, fillings_pieces, behind_parameters}
 use Rattle.syntax.proofs.Behind.{class, is_expression, follows}
 

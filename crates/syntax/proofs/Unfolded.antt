@@ -1,25 +1,62 @@
 -- Each filling is made by what its first token does, from one filling of what may come after it, with the same limits.
-use Rattle.std.proofs.Common.{◌≡◌, ℕ, suc, List, [], ◌∷◌, ◌++◌, Option, Some, None, refl, sym, append_assoc}
-use Rattle.std.specs.Prelude.{⊤}
-use Rattle.std.proofs.lemmas.List.{append-nil}
+use Rattle.std.proofs.Common.{◌≡◌, ℕ, suc, ◌-◌, arith, List, [], ◌∷◌, ◌++◌, refl, sym, ap, ◌∙◌, Option, Some, None, append_assoc}
 use Rattle.std.specs.List.{flat_map}
+use Rattle.std.proofs.lemmas.List.{append_assoc, append-nil}
+use Rattle.std.specs.Prelude.{⊤}
 use Rattle.terms.specs.declared.key.TheConstants.{MAX_COMPONENTS}
 use Rattle.steptree.specs.declared.slot.TheConstants.{MOST_NAMES}
 use Rattle.steptree.specs.declared.sheet.TheConstants.{MOST_COLLECTIONS}
 use Rattle.syntax.specs.declared.token.Word.TheVariants as kept
 use Rattle.syntax.specs.declared.token.Symbol.TheVariants as sign
+use Rattle.syntax.specs.Grammar.{Position, Named, no_sums, sums, own, assigned, if_alone, if_else, for, no_more, and_then, put_item, put_tag, item_declared, tag_declared, prescribes, reads, puts_item}
+use Rattle.syntax.specs.Grammar.{puts_tag, environment_puts_item, environment_puts_tag, environment_gets, Names, Declaration, Relation, StepText}
+use Rattle.syntax.specs.Limits.{one_more, name_limits, names_behind, all_names, step_names, statements_limits, get_limits, put_limits, steps_limits}
 use Rattle.syntax.specs.Tokens.{Spot}
-use Rattle.syntax.specs.Grammar.{Position, no_sums, sums, own, assigned, if_alone, if_else, for, no_more, and_then, put_item, put_tag, item_declared, tag_declared, prescribes, reads, puts_item, puts_tag, environment_puts_item, environment_puts_tag, environment_gets, Named, Names, Declaration, Relation, StepText}
 use Rattle.syntax.specs.Spelled.{Piece, plain, at, declaration_pieces, relation_pieces, step_pieces}
-use Rattle.syntax.specs.Limits.{one_more, name_limits, all_names, names_behind, step_names, statements_limits, get_limits, put_limits, steps_limits}
-use Rattle.syntax.specs.Expected.{Expected, exactly, keyword, a_name, whole, operand, behind_operand, components, more_components, statements, nested_brace, or_else, put_target, declarations, front, front_named, front_closed}
-use Rattle.syntax.specs.Expected.{component_name, behind_component, relations, reader, related, steps, step_name, parameters, parameter, behind_parameter, variables, step_variable, behind_variable}
-use Rattle.syntax.specs.Expected.{Kind, item, tag, reading, writing, Move, step_rest}
-use Rattle.syntax.proofs.Covers.{Covers, covers_same, covers_then, covers_on, covers_swap, covers_middle}
-use Rattle.syntax.proofs.Names.{each_append, each_covers, both_covers}
-use Rattle.syntax.proofs.Fillings.{◌▸◌, counted, parameter_limits, variable_limits, Filling, filling_pieces, filling_limits, Fillings, fillings_limits, declares, relates, with_components, closes}
+use Rattle.syntax.specs.Expected.{Expected, exactly, keyword, a_name, whole, operand, behind_operand, components, more_components, statements, nested_brace, or_else, put_target, declarations, front}
+use Rattle.syntax.specs.Expected.{front_named, front_closed, component_name, behind_component, relations, reader, related, steps, step_name, parameters, parameter, behind_parameter, variables}
+use Rattle.syntax.specs.Expected.{step_variable, behind_variable, Kind, item, tag, reading, writing, Move, step_rest}
+use Rattle.syntax.proofs.Judged.{Covers, covers_same, covers_then, covers_on, covers_swap, covers_middle}
+use Rattle.syntax.proofs.Fillings.{each_limits, counted, ◌▸◌, parameter_limits, variable_limits, Filling, filling_pieces, filling_limits, Fillings, fillings_limits, declares, relates, with_components}
+use Rattle.syntax.proofs.Fillings.{closes}
 use Rattle.syntax.proofs.Turns.{Turn, takes}
 use Rattle.syntax.proofs.AllTurns.{turn}
+
+-- ---- limits at names
+
+pub each_append : (limits : ℕ → Position → List Position) (before : ℕ) (one two : List Named) → each_limits limits before (one ++ two) ≡ each_limits limits before one ++ each_limits limits (counted before one) two
+each_append limits before [] two = refl
+each_append limits before (it ∷ one) two =
+    ap (λ (list : List Position). (name_limits it ++ limits before it.1) ++ list) (each_append limits (suc before) one two)
+    ∙ sym (append_assoc (name_limits it ++ limits before it.1) (each_limits limits (suc before) one) (each_limits limits (counted (suc before) one) two))
+
+-- one more name, with `before` names before it
+behind_step : (most before : ℕ) (it : Named) (names : List Named) → names_behind (most - before) (it ∷ names) ≡ one_more most before it.1 ++ names_behind (most - suc before) names
+behind_step most before it names = grind arith
+
+no_names_behind : (most : ℕ) → names_behind most [] ≡ []
+no_names_behind most = grind arith
+
+-- the limits of the names, and then the limit on their number
+pub each_covers : (most before : ℕ) (names : List Named) → Covers (each_limits (one_more most) before names) (flat_map name_limits names ++ names_behind (most - before) names)
+each_covers most before [] = covers_same (sym (no_names_behind (most - before)))
+each_covers most before (it ∷ names) =
+    covers_then (covers_on (covers_same refl) (each_covers most (suc before) names))
+    (covers_then (covers_middle (name_limits it) (one_more most before it.1) (flat_map name_limits names) (names_behind (most - suc before) names))
+    (covers_same (ap (λ (list : List Position). (name_limits it ++ flat_map name_limits names) ++ list) (sym (behind_step most before it names)))))
+
+-- two limits on their number
+pub both_covers : (one two before : ℕ) (names : List Named)
+    → Covers (each_limits (λ count place. one_more one count place ++ one_more two count place) before names) (each_limits (one_more two) before names ++ names_behind (one - before) names)
+both_covers one two before [] = covers_same (sym (no_names_behind (one - before)))
+both_covers one two before (it ∷ names) =
+    let first = one_more one before it.1 in
+    let second = one_more two before it.1 in
+    covers_then (covers_on (covers_then (covers_on (covers_same refl) (covers_swap first second)) (covers_same (sym (append_assoc (name_limits it) second first)))) (both_covers one two (suc before) names))
+    (covers_then (covers_middle (name_limits it ++ second) first (each_limits (one_more two) (suc before) names) (names_behind (one - suc before) names))
+    (covers_same (ap (λ (list : List Position). ((name_limits it ++ second) ++ each_limits (one_more two) (suc before) names) ++ list) (sym (behind_step one before it names)))))
+
+-- ---- what a first token makes
 
 -- a token makes this filling of one filling of what may come after it, whose limits with its own are those of this filling
 abbrev pub By : {first : Expected} {spot : Spot} {move : Move} → Turn first spot move → Filling first → Type 0

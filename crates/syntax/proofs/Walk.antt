@@ -1,20 +1,25 @@
 -- An induction over tokens that fill what may come: a thing is left out, or its first token is taken, or an expression is read.
-use Rattle.std.proofs.Common.{◌≡◌, ◌≤◌, ℕ, zero, suc, Bool, true, false, List, [], ◌∷◌, ◌++◌, length, Some, refl, sym, subst, arith}
-use Rattle.syntax.specs.Tokens.{Lexeme, Spot}
-use Rattle.syntax.specs.Grammar.{Position}
-use Rattle.syntax.specs.Spelled.{Piece, IsPiece}
+use Rattle.std.proofs.Common.{◌≡◌, ◌≤◌, ℕ, zero, suc, Bool, true, false, List, [], ◌∷◌, ◌++◌, length, Some, refl, sym, subst, arith, ap, ◌∙◌, append_assoc}
+use Rattle.std.proofs.lemmas.List.{append-nil}
+use Rattle.std.specs.List.{flat_map}
+use Rattle.syntax.specs.Tokens.{Lexeme, Spot, unknown}
+use Rattle.syntax.specs.Grammar.{Position, GraphText, Key}
+use Rattle.syntax.specs.Spelled.{Piece, IsPiece, ArePieces, Derives, named, a_sign, sums_pieces}
 use Rattle.syntax.specs.Front.{front_of}
 use Rattle.syntax.specs.Parsed.{Spells}
-use Rattle.syntax.specs.Expected.{Comparing, Expected, whole, operand, behind_operand, Move, taken, left_out, within, look}
-use Rattle.syntax.proofs.Covers.{Covers}
-use Rattle.syntax.proofs.Fillings.{◌▸◌, Whole, whole_pieces, Filling, filling_pieces, filling_limits, Fillings, fillings_pieces, fillings_limits}
+use Rattle.syntax.specs.Expected.{Comparing, Expected, whole, operand, behind_operand, Move, taken, left_out, within, look, met, followed, ended, run, accepted, graph_expected, Kind, item, tag}
+use Rattle.syntax.specs.Expected.{closing, key_rest}
+use Rattle.syntax.specs.Limits.{name_limits, sums_limits, graph_limits, key_limits, declarations_limits, steps_limits, relation_limits}
+use Rattle.syntax.proofs.Judged.{Covers, covers_same, covers_then, covers_on, Judged, judged_same, judged_on, judged_behind, judged_among, taken_within}
+use Rattle.syntax.proofs.Fillings.{◌▸◌, Whole, whole_pieces, Filling, filling_pieces, filling_limits, Fillings, fillings_pieces, fillings_limits, joined, joined_row, parted}
 use Rattle.syntax.proofs.Turns.{is_known, fits, Begins, Turn, takes}
 use Rattle.syntax.proofs.AllTurns.{turn}
 use Rattle.syntax.proofs.Unfolded.{By, empty_of, Unfolds, unfolded}
 use Rattle.syntax.proofs.Behind.{is_begun, is_expression, class, stands, follows, chain, chain_rest, chain_on, fresh, fresh_rest, fresh_on, not_begun, second_of}
 use Rattle.syntax.proofs.LeftOut.{left, fronts}
-use Rattle.syntax.proofs.Only.{halves, shorter}
-use Rattle.syntax.proofs.Parts.{joined, joined_row}
+use Rattle.syntax.proofs.Only.{halves, shorter, spelled, graph_spelled}
+use Rattle.syntax.proofs.Tellings.{Telling, as_told, run_so, next_so, same_run, plain_so}
+use Rattle.syntax.proofs.JudgedExpressions.{whole_judged, whole_only}
 
 -- what may be put in the place of a thing
 pub may_be_put : (first : Expected) (lexeme : Lexeme) (more : List Expected) → fits first lexeme more ≡ true → follows (is_expression first) (class first) more ≡ true
@@ -144,3 +149,100 @@ module _ (later : List Spot) (Holds : (stack : List Expected) → Fillings stack
 
   pub walk : (stack : List Expected) (fillings : Fillings stack) (all : List Spot) → chain (front_of later).0 stack ≡ true → fresh stack ≡ true → Spells (fillings_pieces stack fillings) all later → Holds stack fillings all
   walk stack fillings all chained new spells = walks (length all) stack fillings all (search arith) chained new spells
+
+-- ---- what the machine says: it goes on, or a limit is passed at one of their places
+
+module _ (later : List Spot) (behind : List Expected) (telling : Telling) where
+  abbrev Told : (stack : List Expected) → Fillings stack → List Spot → Type 0
+  Told stack fillings all = Judged (fillings_limits stack fillings) (run_so telling (stack ++ behind) all) (run_so telling behind later)
+
+  skipped_told : Skips later Told
+  skipped_told first rest filling back all plain chained empty none looks further =
+      judged_behind (without all looks) (subst (λ (limits : List Position). Judged (limits ++ fillings_limits rest back) (run_so telling (rest ++ behind) all) (run_so telling behind later)) (sym none) further)
+    where
+      without : (all : List Spot) → look first (front_of all).0 (front_of all).1 ≡ left_out → run_so telling (first ∷ rest ++ behind) all ≡ run_so telling (rest ++ behind) all
+      without [] looks = ap (λ (move : Move). ended (met move (rest ++ behind) (next_so telling (rest ++ behind) (unknown, 0)))) (plain_so telling first unknown 0 plain ∙ looks)
+      without (spot ∷ all) looks =
+          ap (λ (move : Move). followed (met move (rest ++ behind) (next_so telling (rest ++ behind) spot)) (spot ∷ all) (λ after. run_so telling after all)) (plain_so telling first spot.0 spot.1 plain ∙ looks)
+
+  taken_told : Takes later Told
+  taken_told first rest filling back spot spots plain chained it further =
+      let here = judged_behind (ap (λ (it : Move). followed (met it (rest ++ behind) (next_so telling (rest ++ behind) spot)) (spot ∷ spots) (λ after. run_so telling after spots)) (plain_so telling first spot.0 spot.1 plain ∙ it.is))
+      (taken_within telling it.limits it.more (rest ++ behind) spot spots) in
+      let all = judged_on here (judged_behind (ap (λ (stack : List Expected). run_so telling stack spots) (sym (append_assoc it.more rest behind))) further) in
+      let together = ap (λ (list : List Position). it.limits ++ list) (joined_row filling_limits it.more rest it.later back) ∙ sym (append_assoc it.limits (fillings_limits it.more it.later) (fillings_limits rest back)) in
+      let covers = covers_then (covers_same together) (covers_on it.covers (covers_same {a = fillings_limits rest back} refl)) in
+      judged_among covers.none covers.some all
+
+  read_told : ReadsWhole later Told
+  read_told comparing rest filling back all middle new chained stand spells further = judged_on (whole_judged comparing filling telling (rest ++ behind) all middle new stand spells) further
+
+  told : (stack : List Expected) (fillings : Fillings stack) (all : List Spot) → chain (front_of later).0 stack ≡ true → fresh stack ≡ true → Spells (fillings_pieces stack fillings) all later → Told stack fillings all
+  told stack fillings all chained new spells = walk later Told (judged_same refl) skipped_told taken_told read_told stack fillings all chained new spells
+
+-- a key after its opening bracket
+pub key_judged : (kind : Kind) (key : Key) (tokens rest : List Spot) (behind : List Expected) (telling : Telling) → ArePieces (named key.collection ∷ sums_pieces key.components ++ a_sign (closing kind)) tokens
+    → Judged (key_limits key) (run_so telling (key_rest kind ++ behind) (tokens ++ rest)) (run_so telling behind rest)
+key_judged kind key tokens rest behind telling are =
+    let fillings : Fillings (key_rest kind) = key.collection ▸ key.components ▸ tt ▸ tt in
+    subst (λ (limits : List Position). Judged (name_limits key.collection ++ limits) (run_so telling (key_rest kind ++ behind) (tokens ++ rest)) (run_so telling behind rest)) (append-nil (sums_limits key.components))
+    (told rest behind telling (key_rest kind) fillings (tokens ++ rest) (chained kind) refl (spelled (named key.collection ∷ sums_pieces key.components ++ a_sign (closing kind)) tokens rest are))
+  where
+    chained : (kind : Kind) → chain (front_of rest).0 (key_rest kind) ≡ true
+    chained item = refl
+    chained tag = refl
+
+pub graph_judged : (graph : GraphText) (spots : List Spot) → Derives graph spots → (telling : Telling) → Judged (graph_limits graph) (run_so telling graph_expected spots) accepted
+graph_judged graph spots derives telling =
+    subst (λ (limits : List Position). Judged limits (run_so telling graph_expected spots) accepted) (limits_are (declarations_limits 0 0 graph.declarations) (flat_map relation_limits graph.relations) (steps_limits 0 graph.steps))
+    (told [] [] telling graph_expected (graph ▸ tt) spots refl refl (graph_spelled graph spots derives))
+  where
+    limits_are : (a b c : List Position) → (a ++ (b ++ c)) ++ [] ≡ (a ++ b) ++ c
+    limits_are a b c = simp (append_assoc, append-nil)
+
+-- as the machine reports it
+pub graph_told : (graph : GraphText) (spots : List Spot) → Derives graph spots → Judged (graph_limits graph) (run graph_expected spots) accepted
+graph_told graph spots derives = judged_behind (sym (same_run spots graph_expected)) (graph_judged graph spots derives as_told)
+
+-- ---- at most one graph text
+
+module _ (later : List Spot) where
+  -- no other filling has these tokens
+  abbrev Once : (stack : List Expected) → Fillings stack → List Spot → Type 0
+  Once stack one all = (two : Fillings stack) → Spells (fillings_pieces stack two) all later → one ≡ two
+
+  skipped_once : Skips later Once
+  skipped_once first rest filling back all plain chained empty none looks behind two spells = by (opening first two.first rest two.rest all later plain chained spells)
+    where
+      by : Opening first two.first rest two.rest all later → filling ▸ back ≡ two
+      by (leaves also nothing same them) =
+          let here : filling ≡ two.first = cc in
+          let there = behind two.rest them in
+          λ i. here i ▸ there i
+      by (begins spot spots whole_one it) =
+          let also = taken_by (turn first spot.0 spot.1) two.first it in
+          absurd (taken_not_left also.limits also.more (sym also.is ∙ subst (λ (list : List Spot). look first (front_of list).0 (front_of list).1 ≡ left_out) whole_one looks))
+
+  taken_once : Takes later Once
+  taken_once first rest filling back spot spots plain chained it behind two spells = by (spot ∷ spots) refl (opening first two.first rest two.rest (spot ∷ spots) later plain chained spells)
+    where
+      by : (all : List Spot) → all ≡ spot ∷ spots → Opening first two.first rest two.rest all later → filling ▸ back ≡ two
+      by all same (leaves also nothing looks them) = absurd (taken_not_left it.limits it.more (sym it.is ∙ subst (λ (list : List Spot). look first (front_of list).0 (front_of list).1 ≡ left_out) same looks))
+      by all same (begins other others whole_one also) =
+          let spot_is : other ≡ spot = cc in
+          let them = it.others two.first (subst (λ (one : Spot). By (turn first one.0 one.1) two.first) spot_is also) in
+          let both = parted it.more rest it.later them.0 back two.rest (behind (joined it.more rest them.0 two.rest) (spelled_behind first rest it.more it.made two.first them.0 two.rest spot spots later (it.begins them.0) them.1 spells)) in
+          let here : filling ≡ two.first = sym it.same ∙ ap it.made both.0 ∙ them.1 in
+          λ i. here i ▸ both.1 i
+
+  read_once : ReadsWhole later Once
+  read_once comparing rest filling back all middle new chained stand spells behind two others =
+      let parts = halves (whole_pieces comparing two.first) (fillings_pieces rest two.rest) all later others in
+      let here = whole_only comparing filling two.first all middle parts.middle new stand (fronts (whole comparing) rest two.rest parts.middle later chained parts.second) spells parts.first in
+      let there = behind two.rest (subst (λ (spots : List Spot). Spells (fillings_pieces rest two.rest) spots later) (sym here.1) parts.second) in
+      λ i. here.0 i ▸ there i
+
+pub graph_once : (spots : List Spot) (one two : GraphText) → Derives one spots → Derives two spots → one ≡ two
+graph_once spots one two first second =
+    let same = walk [] (Once []) (λ two spells. refl) (skipped_once []) (taken_once []) (read_once []) graph_expected (one ▸ tt) spots refl refl (graph_spelled one spots first) (two ▸ tt) (graph_spelled two spots second) in
+    λ i. (same i).first

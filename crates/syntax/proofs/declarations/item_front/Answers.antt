@@ -8,7 +8,7 @@ use Rattle.syntax.specs.Expected.{item}
 use Rattle.syntax.specs.Parsed.{left, named_of}
 use Rattle.syntax.specs.Declarations.{IsBehindName}
 use Rattle.syntax.proofs.Moves.{reads_on}
-use Rattle.syntax.proofs.DeclarationParts.{front_name, front_stops, front_related, related_stops, none_passed}
+use Rattle.syntax.proofs.GraphParts.{front_name, front_stops, front_related, related_stops, none_passed}
 use Rattle.syntax.proofs.Stopping.{passed_on}
 use Rattle.syntax.proofs.declarations.item_front.Goals as goal
 

@@ -10,7 +10,7 @@ use Rattle.syntax.proofs.Judged.{judged_none}
 use Rattle.syntax.proofs.Behind.{an_end, stands}
 use Rattle.syntax.proofs.Only.{spelled}
 use Rattle.syntax.proofs.JudgedExpressions.{whole_judged}
-use Rattle.syntax.proofs.JudgedFillings.{key_judged, graph_told}
+use Rattle.syntax.proofs.Walk.{key_judged, graph_told}
 use Rattle.syntax.proofs.Causes.{told}
 use Rattle.syntax.proofs.law.derived_may_come.Goals as goal
 

@@ -1,6 +1,6 @@
 use Rattle.std.proofs.Common.{◌<◌, add-one, arith, rules}
 use Rattle.terms.specs.declared.key.TheConstants.{MAX_COMPONENTS}
-use Rattle.syntax.proofs.NameParts.{component_read, next_name, last_name, full_names, name_stops}
+use Rattle.syntax.proofs.StepParts.{component_read, next_name, last_name, full_names, name_stops}
 use Rattle.syntax.proofs.Stopping.{passed_on}
 use Rattle.syntax.proofs.name_lists.component_names.Goals as goal
 

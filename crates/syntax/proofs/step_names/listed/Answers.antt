@@ -1,7 +1,7 @@
 use Rattle.std.proofs.Common.{◌≡◌, ◌<◌, ◌++◌, ◌∷◌, [], true, false, length, refl, sym, subst, rules}
 use Rattle.syntax.specs.Parsed.{left}
 use Rattle.syntax.specs.StepNames.{ListSoFar, IsListRead}
-use Rattle.syntax.proofs.NameParts.{name_listed, next_listed, last_listed, full_list, name_stops_at, sign_stops_at}
+use Rattle.syntax.proofs.StepParts.{name_listed, next_listed, last_listed, full_list, name_stops_at, sign_stops_at}
 use Rattle.syntax.proofs.Stopping.{passed_on}
 use Rattle.syntax.proofs.step_names.listed.Goals as goal
 
