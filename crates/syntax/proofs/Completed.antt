@@ -28,9 +28,8 @@ met_so : (first : Expected) (rest after : List Expected) (spot : Spot) (move : M
 met_so first rest after spot move without given only behind e = grind (arith, chain_on)
 
 pub front_stays : (stack after : List Expected) (spot : Spot) → BegunInFront stack → next stack spot ≡ on after → BegunInFront after
-front_stays [] after spot only is = absurd (cc)
-front_stays (first ∷ rest) after spot only is =
-    met_so first rest after spot (look first spot.0 spot.1) (next rest spot) (turn first spot.0 spot.1) only (front_stays rest after spot (chain_rest unknown first rest only)) is
+front_stays [] after spot only is = grind arith
+front_stays (first ∷ rest) after spot only is = met_so first rest after spot _ _ (turn first spot.0 spot.1) only (front_stays rest after spot (chain_rest unknown first rest only)) is
 
 -- ---- what is lost
 

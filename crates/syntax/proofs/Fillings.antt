@@ -1,7 +1,7 @@
 -- The fillings of each thing that may come: what can stand there, the pieces that it spells and the limits that it passes.
 use Rattle.std.specs.Prelude.{◌≡◌, ⊤, ℕ, suc, List, [], ◌∷◌, ◌++◌, Option, Some, None}
 use Rattle.std.specs.List.{flat_map}
-use Rattle.std.proofs.Common.{◌≡◌, List, [], ◌∷◌, ◌++◌, refl, ap, sym, ◌∙◌, append_assoc}
+use Rattle.std.proofs.Common.{◌≡◌, List, [], ◌∷◌, ◌++◌, refl, ap, sym, ◌∙◌, append_assoc, arith}
 use Rattle.terms.specs.declared.key.TheConstants.{MAX_COMPONENTS}
 use Rattle.steptree.specs.declared.slot.TheConstants.{MOST_NAMES}
 use Rattle.steptree.specs.declared.sheet.TheConstants.{MOST_COLLECTIONS}
@@ -272,8 +272,7 @@ back_part (first ∷ more) rest all = back_part more rest all.rest
 
 pub parts_pieces : (more rest : List Expected) (all : Fillings (more ++ rest)) → fillings_pieces (more ++ rest) all ≡ fillings_pieces more (front_part more rest all) ++ fillings_pieces rest (back_part more rest all)
 parts_pieces [] rest all = refl
-parts_pieces (first ∷ more) rest all =
-    ap (λ (list : List Piece). filling_pieces first all.first ++ list) (parts_pieces more rest all.rest) ∙ sym (append_assoc (filling_pieces first all.first) _ _)
+parts_pieces (first ∷ more) rest all = grind (arith, append_assoc, parts_pieces more rest)
 
 abbrev pub joined : (more rest : List Expected) → Fillings more → Fillings rest → Fillings (more ++ rest)
 joined [] rest ahead back = back
@@ -282,11 +281,11 @@ joined (first ∷ more) rest ahead back = ahead.first ▸ joined more rest ahead
 pub joined_row : {X : Type 0} (of : (expected : Expected) → Filling expected → List X) (more rest : List Expected) (ahead : Fillings more) (back : Fillings rest)
     → in_row of (more ++ rest) (joined more rest ahead back) ≡ in_row of more ahead ++ in_row of rest back
 joined_row of [] rest ahead back = refl
-joined_row {X} of (first ∷ more) rest ahead back = ap (λ (list : List X). of first ahead.first ++ list) (joined_row of more rest ahead.rest back) ∙ sym (append_assoc (of first ahead.first) _ _)
+joined_row of (first ∷ more) rest ahead back = grind (arith, append_assoc, joined_row of more rest)
 
 front_joined : (more rest : List Expected) (ahead : Fillings more) (back : Fillings rest) → front_part more rest (joined more rest ahead back) ≡ ahead
 front_joined [] rest ahead back = refl
-front_joined (first ∷ more) rest ahead back = ap (λ (later : Fillings more). ahead.first ▸ later) (front_joined more rest ahead.rest back)
+front_joined (first ∷ more) rest ahead back = grind (arith, front_joined more rest)
 
 back_joined : (more rest : List Expected) (ahead : Fillings more) (back : Fillings rest) → back_part more rest (joined more rest ahead back) ≡ back
 back_joined [] rest ahead back = refl

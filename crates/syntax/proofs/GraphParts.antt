@@ -165,9 +165,8 @@ tag_room {expected} {pieces} {items} {tags} name count one = room one.declaratio
 -- ---- the whole text
 
 all_pieces : (pieces : List Piece) (spots : List Spot) → Spells pieces spots [] → ArePieces pieces spots
-all_pieces [] spots spells = subst (ArePieces []) (sym spells) tt
-all_pieces (piece ∷ pieces) [] spells = absurd spells
-all_pieces (piece ∷ pieces) (spot ∷ spots) spells = (spells.0, all_pieces pieces spots spells.1)
+all_pieces [] spots spells = grind arith
+all_pieces (piece ∷ pieces) spots spells = grind (arith, all_pieces pieces)
 
 none_left : (spots : List Spot) → length spots ≡ 0 → spots ≡ []
 none_left [] e = refl

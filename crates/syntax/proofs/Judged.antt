@@ -13,8 +13,7 @@ In place (first ∷ more) = (place ≡ first) ⊎ In place more
 
 pub in_front : (place : Position) (a b : List Position) → In place a → In place (a ++ b)
 in_front place [] b there = absurd there
-in_front place (first ∷ a) b (inl is) = inl is
-in_front place (first ∷ a) b (inr there) = inr (in_front place a b there)
+in_front place (first ∷ a) b there = grind (arith, in_front place a b)
 
 pub in_back : (place : Position) (a b : List Position) → In place b → In place (a ++ b)
 in_back place [] b there = there
@@ -58,12 +57,7 @@ both_none (x ∷ a) b none = absurd (cc)
 
 pub in_either : (place : Position) (a b : List Position) → In place (a ++ b) → In place a ⊎ In place b
 in_either place [] b there = inr there
-in_either place (first ∷ a) b (inl is) = inl (inl is)
-in_either place (first ∷ a) b (inr there) = by (in_either place a b there)
-  where
-    by : In place a ⊎ In place b → In place (first ∷ a) ⊎ In place b
-    by (inl front) = inl (inr front)
-    by (inr back) = inr back
+in_either place (first ∷ a) b there = grind (arith, in_either place a b)
 
 -- if `a` is empty then `b` is empty, and all places of `a` are in `b`
 pub record Covers (a b : List Position) : Type 0 where
@@ -74,7 +68,7 @@ pub covers_same : {a b : List Position} → a ≡ b → Covers a b
 covers_same {a} {b} same = record { none = λ empty. sym same ∙ empty; some = λ place there. subst (In place) same there }
 
 pub covers_then : {a b c : List Position} → Covers a b → Covers b c → Covers a c
-covers_then {a} {b} {c} one two = record { none = λ empty. two.none (one.none empty); some = λ place there. two.some place (one.some place there) }
+covers_then {a} {b} {c} one two = grind arith
 
 pub covers_on : {a b c d : List Position} → Covers a b → Covers c d → Covers (a ++ c) (b ++ d)
 covers_on {a} {b} {c} {d} one two = record { none = none; some = some }

@@ -1,5 +1,5 @@
 -- Things that are read one after another, with commas between them.
-use Rattle.std.proofs.Common.{◌≡◌, List, [], ◌∷◌, ◌++◌, ap, sym, ◌∙◌, append_assoc, arith}
+use Rattle.std.proofs.Common.{◌≡◌, List, [], ◌∷◌, ◌++◌, append_assoc, arith}
 use Rattle.std.specs.List.{flat_map}
 use Rattle.std.proofs.lemmas.List.{append-nil}
 use Rattle.syntax.specs.Tokens.{Spot}
@@ -12,16 +12,14 @@ use Rattle.syntax.proofs.Moves.{spelled_on}
 
 pub flat_more : {X Y : Type 0} (f : X → List Y) (xs : List X) (y : X) → flat_map f (xs ++ y ∷ []) ≡ flat_map f xs ++ f y
 flat_more f [] y = append-nil (f y)
-flat_more f (x ∷ xs) y = ap (λ rest. f x ++ rest) (flat_more f xs y) ∙ sym (append_assoc (f x) (flat_map f xs) (f y))
+flat_more f (x ∷ xs) y = grind (arith, append_assoc, flat_more f xs y)
 
 pub flat_none : {X Y : Type 0} (f : X → List Y) (xs : List X) (y : X) → flat_map f xs ≡ [] → f y ≡ [] → flat_map f (xs ++ y ∷ []) ≡ []
 flat_none f xs y none last = rw (flat_more, none) last
 
 pub all_more : {X Y : Type 0} (Is : X → Y → Type 0) (xs : List X) (ys : List Y) (x : X) (y : Y) → AreAll Is xs ys → Is x y → AreAll Is (xs ++ x ∷ []) (ys ++ y ∷ [])
-all_more Is [] [] x y are is = (is, tt)
-all_more Is [] (other ∷ ys) x y are is = absurd are
-all_more Is (other ∷ xs) [] x y are is = absurd are
-all_more Is (first ∷ xs) (second ∷ ys) x y are is = (are.0, all_more Is xs ys x y are.1 is)
+all_more Is [] ys x y are is = grind arith
+all_more Is (first ∷ xs) ys x y are is = grind (arith, all_more Is xs)
 
 -- at least one thing was read, within its limits, and this is known of all
 pub record Listed {X : Type 0} (pieces : List X → List Piece) (limits : X → List Position) (Known : List X → Type 0) (from to : Expected) (start now : List Spot) : Type 0 where

@@ -1,5 +1,5 @@
 -- One step of the machine, and one part of the parser after another.
-use Rattle.std.proofs.Common.{◌≡◌, ◌≢◌, ℕ, zero, suc, List, [], ◌∷◌, ◌++◌, refl, sym, ap, subst, append_assoc, drop, arith, rules}
+use Rattle.std.proofs.Common.{◌≡◌, ◌≢◌, ℕ, zero, suc, List, [], ◌∷◌, ◌++◌, refl, ap, append_assoc, drop, arith, rules}
 use Rattle.syntax.specs.declared.stop.Stop.{Stop}
 use Rattle.syntax.specs.declared.token.Placed.{Placed}
 use Rattle.syntax.specs.Tokens.{Spot, unknown, spots_of}
@@ -36,9 +36,8 @@ pub spelled_one : (piece : Piece) (spots : List Spot) → (front_of spots).0 ≢
 spelled_one piece spots there is = grind arith
 
 pub spelled_on : (one two : List Piece) (before middle after : List Spot) → Spells one before middle → Spells two middle after → Spells (one ++ two) before after
-spelled_on [] two before middle after first second = subst (λ spots. Spells two spots after) (sym first) second
-spelled_on (piece ∷ one) two [] middle after first second = absurd first
-spelled_on (piece ∷ one) two (spot ∷ before) middle after first second = (first.0, spelled_on one two before middle after first.1 second)
+spelled_on [] two before middle after first second = grind arith
+spelled_on (piece ∷ one) two before middle after first second = grind (arith, spelled_on one)
 
 -- ---- one part after another
 

@@ -1,5 +1,5 @@
 -- The numbers of tokens are not below 0.
-use Rattle.std.proofs.Common.{◌≡◌, ℕ, pos, ◌<◌, ◌+◌, ◌-◌, ◌^◌, zero, suc, true, List, [], ◌∷◌, length, drop, refl, arith, rules}
+use Rattle.std.proofs.Common.{◌≡◌, ℕ, pos, ◌<◌, ◌^◌, zero, suc, true, List, [], ◌∷◌, drop, refl, arith, rules}
 use Rattle.std.specs.Int.{cast_signed, w64}
 use Rattle.syntax.specs.declared.token.Placed.{Placed}
 use Rattle.syntax.specs.declared.token.Token.{Token}
@@ -25,7 +25,4 @@ natural_token it here rest stands = grind arith
 
 pub natural_tokens : (tokens : List Placed) (at : ℕ) (bytes : List ℕ) → AreTokens at bytes (spots_of tokens) → all_natural tokens ≡ true
 natural_tokens [] at bytes are = refl
-natural_tokens (placed ∷ tokens) at bytes are =
-    let first = natural_token placed.token are.1 are.2 are.6 in
-    let others = natural_tokens tokens (placed.place + (length are.1 - length are.2)) are.2 are.7 in
-    rw (first, others) refl
+natural_tokens (placed ∷ tokens) at bytes are = grind (arith, natural_token, natural_tokens tokens)

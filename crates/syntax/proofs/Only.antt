@@ -23,8 +23,7 @@ halves (piece ∷ a) b (spot ∷ all) later spells =
 
 pub shorter : (pieces : List Piece) (all later : List Spot) → Spells pieces all later → length later ≤ length all
 shorter [] all later spells = omega (arith, ap length spells)
-shorter (piece ∷ pieces) [] later spells = absurd spells
-shorter (piece ∷ pieces) (spot ∷ all) later spells = omega (arith, shorter pieces all later spells.1)
+shorter (piece ∷ pieces) all later spells = grind (arith, shorter pieces)
 
 -- ---- the first token
 
@@ -38,10 +37,8 @@ front_is piece pieces all later spells = grind arith
 -- ---- whole lists of tokens
 
 pub spelled : (pieces : List Piece) (tokens later : List Spot) → ArePieces pieces tokens → Spells pieces (tokens ++ later) later
-spelled [] [] later are = refl
-spelled [] (spot ∷ tokens) later are = absurd are
-spelled (piece ∷ pieces) [] later are = absurd are
-spelled (piece ∷ pieces) (spot ∷ tokens) later are = (are.0, spelled pieces tokens later are.1)
+spelled [] tokens later are = grind arith
+spelled (piece ∷ pieces) tokens later are = grind (arith, spelled pieces)
 
 -- the tokens of a whole graph text
 pub graph_spelled : (graph : GraphText) (spots : List Spot) → Derives graph spots → Spells (graph_pieces graph ++ []) spots []

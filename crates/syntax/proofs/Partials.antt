@@ -1,5 +1,5 @@
 -- What the parser keeps of an expression.
-use Rattle.std.proofs.Common.{◌≡◌, ℕ, ◌≤◌, ◌<◌, suc, true, false, List, [], ◌∷◌, ◌++◌, length, reverse, refl, ap, ◌∙◌, arith, if◌then◌else◌, nat_lt, rules, Vec, Global}
+use Rattle.std.proofs.Common.{◌≡◌, ℕ, ◌≤◌, ◌<◌, true, false, List, [], ◌∷◌, ◌++◌, length, reverse, refl, ap, ◌∙◌, arith, if◌then◌else◌, nat_lt, rules, Vec, Global}
 use Rattle.std.proofs.lemmas.List.{reverse-append, length-reverse}
 use Rattle.syntax.specs.declared.limits.TheConstants.{MOST_BRACKETS}
 use Rattle.syntax.specs.declared.partial.Level.{Level as Kept_level}
@@ -12,10 +12,8 @@ use Rattle.syntax.specs.Expected.{Level, Expression, opened, possible, bracketin
 use Rattle.syntax.specs.Partial.{IsLevel, IsPartial}
 
 pub as_many : {X Y : Type 0} (Is : X → Y → Type 0) (xs : List X) (ys : List Y) → AreAll Is xs ys → length xs ≡ length ys
-as_many Is [] [] are = refl
-as_many Is [] (y ∷ ys) are = absurd are
-as_many Is (x ∷ xs) [] are = absurd are
-as_many Is (x ∷ xs) (y ∷ ys) are = ap suc (as_many Is xs ys are.1)
+as_many Is [] ys are = grind arith
+as_many Is (x ∷ xs) ys are = grind (arith, as_many Is xs)
 
 empty : {X : Type 0} (xs : List X) → length xs ≡ 0 → xs ≡ []
 empty [] e = refl

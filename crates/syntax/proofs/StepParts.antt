@@ -225,15 +225,8 @@ no_steps start = record { texts = []; goes = λ behind. refl; spells = refl; are
 
 steps_within : (count : ℕ) (texts : List StepText) (text : StepText) → steps_limits count texts ≡ [] → one_more MOST_COLLECTIONS (count + length texts) text.name.1 ++ step_limits text ≡ []
     → steps_limits count (texts ++ text ∷ []) ≡ []
-steps_within count [] text none within =
-    let same : count + 0 ≡ count = omega arith in
-    append-nil (one_more MOST_COLLECTIONS count text.name.1 ++ step_limits text) ∙ subst (λ number. one_more MOST_COLLECTIONS number text.name.1 ++ step_limits text ≡ []) same within
-steps_within count (first ∷ texts) text none within =
-    let front = one_more MOST_COLLECTIONS count first.name.1 ++ step_limits first in
-    let parts = both_none front (steps_limits (suc count) texts) none in
-    let same : count + suc (length texts) ≡ suc count + length texts = omega arith in
-    ap (λ limits. limits ++ steps_limits (suc count) (texts ++ text ∷ [])) parts.0
-    ∙ steps_within (suc count) texts text parts.1 (subst (λ number. one_more MOST_COLLECTIONS number text.name.1 ++ step_limits text ≡ []) same within)
+steps_within count [] text none within = grind (arith, append-nil)
+steps_within count (first ∷ texts) text none within = grind (arith, both_none, steps_within (suc count) texts text)
 
 step_begins : (count : ℕ) (before after : List Spot) → TakenIfWord kept.Step true before after → Reads (steps count ∷ []) (step_rest count) (a_word kept.Step) before after
 step_begins count before after taken = taken (steps count) (step_rest count) (λ lexeme place. refl)

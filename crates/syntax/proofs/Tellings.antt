@@ -74,17 +74,15 @@ same_move first move = grind arith
 
 same_next : (stack : List Expected) (spot : Spot) → next_so as_told stack spot ≡ next stack spot
 same_next [] spot = refl
-same_next (first ∷ rest) spot =
-    ap (λ (move : Move). met move rest (next_so as_told rest spot)) (same_move first (look first spot.0 spot.1)) ∙ ap (met (look first spot.0 spot.1) rest) (same_next rest spot)
+same_next (first ∷ rest) spot = grind (arith, same_move, same_next rest spot)
 
 same_later : (it : Next) (here spots : List Spot) → ((stack : List Expected) → run_so as_told stack spots ≡ run stack spots)
     → followed it here (λ after. run_so as_told after spots) ≡ followed it here (λ after. run after spots)
 same_later it here spots later = grind arith
 
 pub same_run : (spots : List Spot) (stack : List Expected) → run_so as_told stack spots ≡ run stack spots
-same_run [] stack = ap ended (same_next stack (unknown, 0))
-same_run (spot ∷ spots) stack =
-    ap (λ (it : Next). followed it (spot ∷ spots) (λ after. run_so as_told after spots)) (same_next stack spot) ∙ same_later (next stack spot) (spot ∷ spots) spots (same_run spots)
+same_run [] stack = grind (arith, same_next)
+same_run (spot ∷ spots) stack = grind (arith, same_next, same_run spots)
 
 pub as_the_machine : (one two : List Spot) (first second : List Expected) → run_so as_told first one ≡ run_so as_told second two → run first one ≡ run second two
 as_the_machine one two first second same = sym (same_run one first) ∙ same ∙ same_run two second
@@ -96,8 +94,7 @@ met_on change move rest more one other behind is = grind arith
 
 pub next_on : (telling : Telling) (stack more : List Expected) (spot : Spot) → next stack spot ≡ on more → next_so telling stack spot ≡ on more
 next_on telling [] more spot is = is
-next_on telling (first ∷ rest) more spot is =
-    met_on (instead first telling) (look first spot.0 spot.1) rest more (next rest spot) (next_so telling rest spot) (next_on telling rest more spot) is
+next_on telling (first ∷ rest) more spot is = grind (arith, next_on telling rest more spot)
 
 pub run_on : (telling : Telling) (stack more : List Expected) (spot : Spot) (spots : List Spot) → next stack spot ≡ on more → run_so telling stack (spot ∷ spots) ≡ run_so telling more spots
 run_on telling stack more spot spots is = ap (λ (it : Next). followed it (spot ∷ spots) (λ after. run_so telling after spots)) (next_on telling stack more spot is)
@@ -205,7 +202,5 @@ at_token : (sooner : Sooner) (place : Position) (move : Move) (rest : List Expec
 at_token sooner place move rest without here spots lost later = grind arith
 
 pub lost_tells : (spots : List Spot) (sooner : Sooner) (place : Position) (first : Expected) (rest : List Expected) → Lost sooner place first → TellsOnly place (run_so (of_whole sooner) (first ∷ rest) spots)
-lost_tells [] sooner place first rest lost = at_end sooner place (look_so (of_whole sooner) first unknown 0) rest (next_so (of_whole sooner) rest (unknown, 0)) (lost_look sooner place first unknown 0 lost)
-lost_tells (spot ∷ spots) sooner place first rest lost =
-    at_token sooner place (look_so (of_whole sooner) first spot.0 spot.1) rest (next_so (of_whole sooner) rest spot) (spot ∷ spots) spots (lost_look sooner place first spot.0 spot.1 lost)
-    (λ other still. lost_tells spots sooner place other rest still)
+lost_tells [] sooner place first rest lost = grind (arith, lost_look)
+lost_tells (spot ∷ spots) sooner place first rest lost = grind (arith, lost_look, lost_tells spots)

@@ -1,5 +1,5 @@
 -- Each filling is made by what its first token does, from one filling of what may come after it, with the same limits.
-use Rattle.std.proofs.Common.{◌≡◌, ℕ, suc, ◌-◌, arith, List, [], ◌∷◌, ◌++◌, refl, sym, ap, ◌∙◌, Option, Some, None, append_assoc}
+use Rattle.std.proofs.Common.{◌≡◌, ℕ, suc, ◌-◌, arith, List, [], ◌∷◌, ◌++◌, refl, sym, ap, Option, Some, None, append_assoc}
 use Rattle.std.specs.List.{flat_map}
 use Rattle.std.proofs.lemmas.List.{append_assoc, append-nil}
 use Rattle.std.specs.Prelude.{⊤}
@@ -26,9 +26,7 @@ use Rattle.syntax.proofs.AllTurns.{turn}
 
 pub each_append : (limits : ℕ → Position → List Position) (before : ℕ) (one two : List Named) → each_limits limits before (one ++ two) ≡ each_limits limits before one ++ each_limits limits (counted before one) two
 each_append limits before [] two = refl
-each_append limits before (it ∷ one) two =
-    ap (λ (list : List Position). (name_limits it ++ limits before it.1) ++ list) (each_append limits (suc before) one two)
-    ∙ sym (append_assoc (name_limits it ++ limits before it.1) (each_limits limits (suc before) one) (each_limits limits (counted (suc before) one) two))
+each_append limits before (it ∷ one) two = grind (arith, append_assoc, each_append limits (suc before) one two)
 
 -- one more name, with `before` names before it
 behind_step : (most before : ℕ) (it : Named) (names : List Named) → names_behind (most - before) (it ∷ names) ≡ one_more most before it.1 ++ names_behind (most - suc before) names
