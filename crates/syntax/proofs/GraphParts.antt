@@ -26,7 +26,7 @@ use Rattle.syntax.specs.Steps.{AreStepsRead}
 use Rattle.syntax.specs.Graphs.{IsGraphRead}
 use Rattle.syntax.specs.Reading.{position_behind}
 use Rattle.syntax.proofs.Moves.{spelled_on}
-use Rattle.syntax.proofs.Lists.{flat_more, flat_none, all_more}
+use Rattle.syntax.proofs.KeyParts.{flat_more, flat_none, all_more}
 
 pub bracket_due : (kind : Kind) (items tags : ℕ) (at : Position) (behind : List Expected) (spots : List Spot) → (front_of spots).0 ≢ symbol sign.Colon
     → run (front_named kind items tags at ∷ behind) spots ≡ run (exactly (closing kind) ∷ front_closed kind items tags at ∷ behind) spots

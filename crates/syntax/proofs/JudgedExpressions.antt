@@ -16,7 +16,7 @@ use Rattle.syntax.proofs.Tellings.{Telling, as_told, of_whole, its_depth, within
 use Rattle.syntax.proofs.Judged.{in_back, Judged, goes, breaks, judged_behind}
 use Rattle.syntax.proofs.Fillings.{Whole, whole_pieces, whole_limits}
 use Rattle.syntax.proofs.Behind.{is_begun, class, stands}
-use Rattle.syntax.proofs.Only.{halves}
+use Rattle.syntax.proofs.Moves.{halves}
 
 -- an expression so far; and a level at the beginning of a product
 abbrev pub so_far : Option Position → Position → Level → List (Level × Position) → Expression

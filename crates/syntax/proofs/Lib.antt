@@ -4,7 +4,6 @@ pub mod Broken
 pub mod Causes
 pub mod Chain
 pub mod Completed
-pub mod Example
 pub mod FilledExpressions
 pub mod Fillings
 pub mod Forward
@@ -14,12 +13,9 @@ pub mod Heads
 pub mod Judged
 pub mod JudgedExpressions
 pub mod KeyParts
-pub mod LeftOut
-pub mod Lists
 pub mod Moves
 pub mod Natural
 pub mod Once
-pub mod Only
 pub mod Operands
 pub mod Partials
 pub mod Returned

@@ -21,7 +21,7 @@ use Rattle.syntax.specs.Parsed.{Goes, Reads, Tells, Stops, named_of}
 use Rattle.syntax.specs.Statements.{Own, own_pieces, own_limits, is_own, Begins, assignment_expected, choice_expected, repetition_expected, own_expected, IsFirst, IsStatementRead, IsChoiceRead}
 use Rattle.syntax.specs.Statements.{IsConditionRead, IsNestedRead, Second, second_pieces, second_limits, IsSecond, IsSecondRead, NoneBegins, statements_of, StatementsSoFar, AreRead}
 use Rattle.syntax.proofs.Moves.{◌⨟◌, reads_on}
-use Rattle.syntax.proofs.Lists.{flat_more, flat_none, all_more}
+use Rattle.syntax.proofs.KeyParts.{flat_more, flat_none, all_more}
 
 -- ---- parts of a statement
 

@@ -25,7 +25,7 @@ use Rattle.syntax.specs.ComponentNames.{AreNamed, NamesSoFar, pieces_of}
 use Rattle.syntax.specs.StepNames.{look_on, TakesOn, StopsOn, NameList, ListSoFar, IsListRead, NoParameters, AreParameters, AreVariables}
 use Rattle.syntax.specs.Steps.{step_expected, IsStepRead, StepsSoFar, AreStepsRead}
 use Rattle.syntax.proofs.Moves.{reads_on, stops_behind, spelled_on}
-use Rattle.syntax.proofs.Lists.{flat_more, all_more, Listed, one_listed, next_spelled}
+use Rattle.syntax.proofs.KeyParts.{flat_more, all_more, Listed, one_listed, next_spelled}
 use Rattle.syntax.proofs.Partials.{few_more, too_many_more, as_many}
 use Rattle.syntax.proofs.Judged.{both_none}
 
