@@ -1,18 +1,15 @@
 -- An induction over tokens that fill what may come: a thing is left out, or its first token is taken, or an expression is read.
 use Rattle.std.proofs.Common.{◌≡◌, Bool, true, false, if◌then◌else◌, List, [], ◌∷◌, ◌++◌, Some, refl, sym, ap, ◌∙◌, arith, ◌≤◌, ℕ, zero, suc, length, subst, append_assoc}
 use Rattle.std.proofs.lemmas.List.{append-nil}
-use Rattle.std.specs.List.{flat_map}
-use Rattle.syntax.specs.declared.token.Word.TheVariants as kept
-use Rattle.syntax.specs.declared.token.Symbol.TheVariants as sign
-use Rattle.syntax.specs.Tokens.{Lexeme, word, symbol, unknown, Spot}
+use Rattle.syntax.specs.Tokens.{Lexeme, Spot}
 use Rattle.syntax.specs.Grammar.{Position, own, assigned, no_more, and_then, put_item, GraphText, Key}
 use Rattle.syntax.specs.Spelled.{Piece, IsPiece, ArePieces, Derives, named, a_sign, sums_pieces}
 use Rattle.syntax.specs.Front.{front_of}
 use Rattle.syntax.specs.Parsed.{Spells}
 use Rattle.syntax.specs.Expected.{Expected, exactly, keyword, components, more_components, statements, nested_brace, or_else, declarations, behind_component, relations, steps, variables, Part}
-use Rattle.syntax.specs.Expected.{reading, writing, left_out, look, Comparing, whole, operand, behind_operand, Move, taken, within, met, followed, ended, run, accepted, graph_expected, Kind, item}
-use Rattle.syntax.specs.Expected.{tag, closing, key_rest}
-use Rattle.syntax.specs.Limits.{name_limits, sums_limits, graph_limits, key_limits, declarations_limits, steps_limits, relation_limits}
+use Rattle.syntax.specs.Expected.{reading, writing, left_out, look, Comparing, whole, operand, behind_operand, Move, taken, within, met, followed, run, accepted, graph_expected, Kind}
+use Rattle.syntax.specs.Expected.{closing, key_rest}
+use Rattle.syntax.specs.Limits.{graph_limits, key_limits}
 use Rattle.syntax.proofs.Fillings.{Filling, filling_pieces, Fillings, fillings_pieces, Block, block_pieces, ◌▸◌, Whole, whole_pieces, filling_limits, fillings_limits, joined, joined_row, parted}
 use Rattle.syntax.proofs.Moves.{front_is, lexeme_in, halves, shorter, spelled, graph_spelled}
 use Rattle.syntax.proofs.Behind.{Class, anything, a_bracket, a_brace, a_statement, the_word_read, more_sums, an_end, class, is_begun, is_one, stands, admits, chain, first_of, second_of, is_expression}
@@ -27,24 +24,15 @@ use Rattle.syntax.proofs.JudgedExpressions.{whole_judged, whole_only}
 -- ---- before a token that may stand behind it, a thing that spells nothing is left out
 
 pub left : (first : Expected) (empty : Filling first) → Some empty ≡ empty_of first → (lexeme : Lexeme) (place : Position) → stands (class first) lexeme ≡ true → look first lexeme place ≡ left_out
-left components empty is (symbol sign.CloseBracket) place stand = refl
-left components empty is _ place stand = cc
-left more_components empty is (symbol sign.CloseBracket) place stand = refl
-left more_components empty is _ place stand = cc
-left (statements part around) empty is (symbol sign.CloseBrace) place stand = refl
-left (statements part around) empty is _ place stand = absurd (cc)
-left (or_else part around) empty is (word kept.Else) place stand = absurd (cc)
-left (or_else part around) empty is _ place stand = refl
-left (declarations items tags) empty is unknown place stand = refl
-left (declarations items tags) empty is _ place stand = absurd (cc)
-left (behind_component before) empty is (symbol sign.CloseBracket) place stand = refl
-left (behind_component before) empty is _ place stand = cc
-left relations empty is unknown place stand = refl
-left relations empty is _ place stand = absurd (cc)
-left (steps before) empty is unknown place stand = refl
-left (steps before) empty is _ place stand = absurd (cc)
-left (variables before) empty is (word kept.Read) place stand = refl
-left (variables before) empty is _ place stand = absurd (cc)
+left components empty is lexeme place stand = grind arith
+left more_components empty is lexeme place stand = grind arith
+left (statements part around) empty is lexeme place stand = grind arith
+left (or_else part around) empty is lexeme place stand = grind arith
+left (declarations items tags) empty is lexeme place stand = grind arith
+left (behind_component before) empty is lexeme place stand = grind arith
+left relations empty is lexeme place stand = grind arith
+left (steps before) empty is lexeme place stand = grind arith
+left (variables before) empty is lexeme place stand = grind arith
 left _ empty is lexeme place stand = absurd (cc)
 
 brace_no_else : (lexeme : Lexeme) → stands a_brace lexeme ≡ true → stands a_statement lexeme ≡ true
@@ -71,19 +59,15 @@ block_opens _ _ = refl
 -- what stands behind a thing of this class begins so
 opens_so : (it : Class) (second : Expected) (filling : Filling second) → is_one it second ≡ true → (lexeme : Lexeme) (pieces : List Piece) → filling_pieces second filling ≡ pieces
     → (pieces ≡ [] → stands (class second) lexeme ≡ true) → (opens it pieces ≡ true) × (pieces ≡ [] → stands it lexeme ≡ true)
-opens_so anything second filling is lexeme [] same further = (refl, λ none. refl)
-opens_so anything second filling is lexeme (piece ∷ pieces) same further = (refl, λ none. refl)
-opens_so a_bracket (exactly sign.CloseBracket) filling is lexeme pieces same further = (ap (opens a_bracket) (sym same), λ none. absurd (cc))
-opens_so a_bracket (exactly sign.Greater) filling is lexeme pieces same further = (ap (opens a_bracket) (sym same), λ none. absurd (cc))
-opens_so a_brace (exactly sign.CloseBrace) filling is lexeme pieces same further = (ap (opens a_brace) (sym same), λ none. absurd (cc))
-opens_so the_word_read (keyword kept.Read) filling is lexeme pieces same further = (ap (opens the_word_read) (sym same), λ none. absurd (cc))
-opens_so an_end (exactly sign.Semicolon) filling is lexeme pieces same further = (ap (opens an_end) (sym same), λ none. absurd (cc))
-opens_so an_end (exactly sign.CloseRound) filling is lexeme pieces same further = (ap (opens an_end) (sym same), λ none. absurd (cc))
-opens_so an_end (exactly sign.DoubleDot) filling is lexeme pieces same further = (ap (opens an_end) (sym same), λ none. absurd (cc))
-opens_so an_end (nested_brace around) filling is lexeme pieces same further = (ap (opens an_end) (sym same), λ none. absurd (cc))
-opens_so a_statement (statements part around) filling is lexeme pieces same further = (ap (opens a_statement) (sym same) ∙ block_opens part filling, λ none. brace_no_else lexeme (further none))
-opens_so more_sums more_components [] is lexeme pieces same further = (ap (opens more_sums) (sym same), λ none. bracket_no_comma lexeme (further none))
-opens_so more_sums more_components (sum ∷ more) is lexeme pieces same further = (ap (opens more_sums) (sym same), λ none. absurd (cc))
+opens_so anything second filling is lexeme pieces same further = grind arith
+opens_so a_bracket (exactly it) filling is lexeme pieces same further = grind arith
+opens_so a_brace (exactly it) filling is lexeme pieces same further = grind arith
+opens_so the_word_read (keyword it) filling is lexeme pieces same further = grind arith
+opens_so an_end (exactly it) filling is lexeme pieces same further = grind arith
+opens_so an_end (nested_brace around) filling is lexeme pieces same further = grind arith
+opens_so a_statement (statements part around) filling is lexeme pieces same further = grind (arith, further, block_opens part filling, brace_no_else)
+opens_so more_sums more_components [] is lexeme pieces same further = grind (arith, further, bracket_no_comma)
+opens_so more_sums more_components (sum ∷ more) is lexeme pieces same further = grind arith
 opens_so _ second filling is lexeme pieces same further = absurd (cc)
 
 pub fronts : (first : Expected) (rest : List Expected) (fillings : Fillings rest) (all later : List Spot) → chain (front_of later).0 (first ∷ rest) ≡ true → Spells (fillings_pieces rest fillings) all later
@@ -153,15 +137,9 @@ opening_by first filling rest back all later [] chained none spells =
 opening_by first filling rest back [] later (piece ∷ pieces) chained unfolds spells = absurd spells
 opening_by first filling rest back (spot ∷ spots) later (piece ∷ pieces) chained unfolds spells = begins spot spots refl (by_token first filling piece pieces spot unfolds spells.0)
 
-unfolds : (first : Expected) (filling : Filling first) → is_expression first ≡ false → Unfolds first filling (filling_pieces first filling)
-unfolds (whole comparing) filling plain_one = absurd (cc)
-unfolds (operand state) filling plain_one = absurd (cc)
-unfolds (behind_operand state prod) filling plain_one = absurd (cc)
-unfolds first filling plain_one = unfolded first filling
-
 pub opening : (first : Expected) (filling : Filling first) (rest : List Expected) (back : Fillings rest) (all later : List Spot) → is_expression first ≡ false → chain (front_of later).0 (first ∷ rest) ≡ true
     → Spells (filling_pieces first filling ++ fillings_pieces rest back) all later → Opening first filling rest back all later
-opening first filling rest back all later plain_one chained spells = opening_by first filling rest back all later (filling_pieces first filling) chained (unfolds first filling plain_one) spells
+opening first filling rest back all later plain_one chained spells = opening_by first filling rest back all later (filling_pieces first filling) chained (unfolded first plain_one filling) spells
 
 -- the tokens after the first one spell what is put in its place, and what stands behind
 pub spelled_behind : (first : Expected) (rest more : List Expected) (made : Fillings more → Filling first) (filling : Filling first) (later : Fillings more) (back : Fillings rest) (spot : Spot) (spots end : List Spot)
@@ -240,12 +218,8 @@ module _ (later : List Spot) (behind : List Expected) (telling : Telling) where
 
   skipped_told : Skips later Told
   skipped_told first rest filling back all plain chained empty none looks further =
-      judged_behind (without all looks) (subst (λ (limits : List Position). Judged (limits ++ fillings_limits rest back) (run_so telling (rest ++ behind) all) (run_so telling behind later)) (sym none) further)
-    where
-      without : (all : List Spot) → look first (front_of all).0 (front_of all).1 ≡ left_out → run_so telling (first ∷ rest ++ behind) all ≡ run_so telling (rest ++ behind) all
-      without [] looks = ap (λ (move : Move). ended (met move (rest ++ behind) (next_so telling (rest ++ behind) (unknown, 0)))) (plain_so telling first unknown 0 plain ∙ looks)
-      without (spot ∷ all) looks =
-          ap (λ (move : Move). followed (met move (rest ++ behind) (next_so telling (rest ++ behind) spot)) (spot ∷ all) (λ after. run_so telling after all)) (plain_so telling first spot.0 spot.1 plain ∙ looks)
+      let without : run_so telling (first ∷ rest ++ behind) all ≡ run_so telling (rest ++ behind) all = grind (arith, plain_so) in
+      judged_behind without (subst (λ (limits : List Position). Judged (limits ++ fillings_limits rest back) (run_so telling (rest ++ behind) all) (run_so telling behind later)) (sym none) further)
 
   taken_told : Takes later Told
   taken_told first rest filling back spot spots plain chained it further =
@@ -267,20 +241,10 @@ pub key_judged : (kind : Kind) (key : Key) (tokens rest : List Spot) (behind : L
     → Judged (key_limits key) (run_so telling (key_rest kind ++ behind) (tokens ++ rest)) (run_so telling behind rest)
 key_judged kind key tokens rest behind telling are =
     let fillings : Fillings (key_rest kind) = key.collection ▸ key.components ▸ tt ▸ tt in
-    subst (λ (limits : List Position). Judged (name_limits key.collection ++ limits) (run_so telling (key_rest kind ++ behind) (tokens ++ rest)) (run_so telling behind rest)) (append-nil (sums_limits key.components))
-    (told rest behind telling (key_rest kind) fillings (tokens ++ rest) (chained kind) refl (spelled (named key.collection ∷ sums_pieces key.components ++ a_sign (closing kind)) tokens rest are))
-  where
-    chained : (kind : Kind) → chain (front_of rest).0 (key_rest kind) ≡ true
-    chained item = refl
-    chained tag = refl
+    simp append-nil at (told rest behind telling (key_rest kind) fillings (tokens ++ rest) (grind arith) refl (spelled (named key.collection ∷ sums_pieces key.components ++ a_sign (closing kind)) tokens rest are))
 
 pub graph_judged : (graph : GraphText) (spots : List Spot) → Derives graph spots → (telling : Telling) → Judged (graph_limits graph) (run_so telling graph_expected spots) accepted
-graph_judged graph spots derives telling =
-    subst (λ (limits : List Position). Judged limits (run_so telling graph_expected spots) accepted) (limits_are (declarations_limits 0 0 graph.declarations) (flat_map relation_limits graph.relations) (steps_limits 0 graph.steps))
-    (told [] [] telling graph_expected (graph ▸ tt) spots refl refl (graph_spelled graph spots derives))
-  where
-    limits_are : (a b c : List Position) → (a ++ (b ++ c)) ++ [] ≡ (a ++ b) ++ c
-    limits_are a b c = simp (append_assoc, append-nil)
+graph_judged graph spots derives telling = simp append_assoc (simp (append_assoc, append-nil) at (told [] [] telling graph_expected (graph ▸ tt) spots refl refl (graph_spelled graph spots derives)))
 
 -- as the machine reports it
 pub graph_told : (graph : GraphText) (spots : List Spot) → Derives graph spots → Judged (graph_limits graph) (run graph_expected spots) accepted
