@@ -1,11 +1,11 @@
 -- The tokens that the machine takes begin some graph text; only the first thing that may come can be an expression that has begun.
-use Rattle.std.proofs.Common.{◌≡◌, ◌⊎◌, inl, inr, true, false, if◌then◌else◌, List, [], ◌∷◌, arith, ◌≢◌, ◌++◌, sym, ap, subst, ◌∙◌, ℕ, suc, codes, take, None, refl}
+use Rattle.std.proofs.Common.{◌≡◌, ◌⊎◌, inl, inr, true, false, if◌then◌else◌, List, [], ◌∷◌, arith, ◌≢◌, ◌++◌, sym, ap, subst, ℕ, suc, codes, take, None, refl}
 use Rattle.std.specs.Prelude.{⊤}
 use Rattle.std.proofs.lemmas.List.{append-nil}
 use Rattle.syntax.specs.declared.token.Symbol.TheVariants as sign
 use Rattle.syntax.specs.Tokens.{Spot, unknown, Lexeme, number, symbol}
 use Rattle.syntax.specs.Grammar.{Position, Named, Names, sum_alone, compared, Sum, prod_alone, Prod, unary_alone, literal, bracketed, no_sums, no_more, put_tag, GraphText}
-use Rattle.syntax.specs.Expected.{Expected, Move, look, Next, on, met, next, taken, within, nothing_left, at_fault, limit_passed, Comparing, never, possible, behind_left, Level, Expression}
+use Rattle.syntax.specs.Expected.{Expected, Move, look, Next, on, met, next, nothing_left, at_fault, limit_passed, Comparing, never, possible, behind_left, Level, Expression}
 use Rattle.syntax.specs.Expected.{level_expr, without_product, product_behind, closed, item, graph_expected, exactly, keyword, a_name, whole, operand, behind_operand, components, more_components}
 use Rattle.syntax.specs.Expected.{statements, nested_brace, or_else, put_target, declarations, front, front_named, front_closed, component_name, behind_component, relations, reader, related, steps}
 use Rattle.syntax.specs.Expected.{step_name, parameters, parameter, behind_parameter, variables, step_variable, behind_variable}
@@ -78,41 +78,27 @@ AllSound stack spot at_fault = ⊤
 AllSound stack spot (limit_passed place) = AllBegins stack spot ⊎ LostAmong place stack
 
 known_one : (first : Expected) (lexeme : Lexeme) (more : List Expected) → fits first lexeme more ≡ true → lexeme ≢ unknown
-known_one first lexeme more may is = let none : false ≡ true = subst (λ (it : Lexeme). fits first it more ≡ true) is may in cc
+known_one first lexeme more may is = grind arith
 
 all_taken : (first : Expected) (rest more : List Expected) (spot : Spot) (made : Fillings more → Filling first) → ((later : Fillings more) → Begins spot (filling_pieces first (made later)) (fillings_pieces more later))
     → (later : Fillings (more ++ rest)) → AllBegun (first ∷ rest) spot (fillings_pieces (more ++ rest) later)
 all_taken first rest more spot made begins later =
-    let front = front_part more rest later in
-    let back = back_part more rest later in
-    let begun = begins front in
-    record {
-      piece = begun.0;
-      is = begun.1;
-      fillings = made front ▸ back;
-      spelled = ap (λ (list : List Piece). list ++ fillings_pieces rest back) begun.2 ∙ ap (λ (list : List Piece). begun.0 ∷ list) (sym (parts_pieces more rest later));
-    }
+    let begun = begins (front_part more rest later) in
+    record { piece = begun.0; is = begun.1; fillings = made (front_part more rest later) ▸ back_part more rest later; spelled = grind (arith, parts_pieces more rest later) }
 
-all_left_out : (first : Expected) (rest : List Expected) (spot : Spot) (pieces : List Piece) (empty : Filling first) → filling_pieces first empty ≡ [] → AllBegun rest spot pieces → AllBegun (first ∷ rest) spot pieces
-all_left_out first rest spot pieces empty none begun = record {
-  piece = begun.piece;
-  is = begun.is;
-  fillings = empty ▸ begun.fillings;
-  spelled = ap (λ (list : List Piece). list ++ fillings_pieces rest begun.fillings) none ∙ begun.spelled;
-}
+left_out_first : (first : Expected) (rest : List Expected) (spot : Spot) (pieces : List Piece) (empty : Filling first) → filling_pieces first empty ≡ [] → AllBegun rest spot pieces → AllBegun (first ∷ rest) spot pieces
+left_out_first first rest spot pieces empty none begun = record { piece = begun.piece; is = begun.is; fillings = empty ▸ begun.fillings; spelled = rw none begun.spelled }
 
 skipped : (first : Expected) (rest : List Expected) (spot : Spot) (empty : Filling first) (without : Next) → filling_pieces first empty ≡ [] → AllSound rest spot without → AllSound (first ∷ rest) spot without
-skipped first rest spot empty without none behind = grind (arith, all_left_out)
+skipped first rest spot empty without none behind = grind (arith, left_out_first)
 
 met_sound : (first : Expected) (rest : List Expected) (spot : Spot) (move : Move) (without : Next) → Turn first spot move → AllSound rest spot without → AllSound (first ∷ rest) spot (met move rest without)
-met_sound first rest spot move without (takes limits more made is may begins) behind = subst (λ (it : Move). AllSound (first ∷ rest) spot (met it rest without)) (sym is) (by limits)
-  where
-    by : (limits : List Position) → AllSound (first ∷ rest) spot (met (within limits (taken more)) rest without)
-    by [] = all_taken first rest more spot made begins
-    by (place ∷ limits) = inl (record { known = known_one first spot.0 more may; after = more ++ rest; begun = all_taken first rest more spot made begins })
-met_sound first rest spot move without (skips empty is none) behind = subst (λ (it : Move). AllSound (first ∷ rest) spot (met it rest without)) (sym is) (skipped first rest spot empty without none behind)
-met_sound first rest spot move without (fails is) behind = subst (λ (it : Move). AllSound (first ∷ rest) spot (met it rest without)) (sym is) tt
-met_sound first rest spot move without (loses place is lost) behind = subst (λ (it : Move). AllSound (first ∷ rest) spot (met it rest without)) (sym is) (inr (inl lost))
+met_sound first rest spot move without (takes [] more made is may begins) behind = rw is (all_taken first rest more spot made begins)
+met_sound first rest spot move without (takes (place ∷ limits) more made is may begins) behind =
+    rw is (inl (record { known = known_one first spot.0 more may; after = more ++ rest; begun = all_taken first rest more spot made begins }))
+met_sound first rest spot move without (skips empty is none) behind = rw is (skipped first rest spot empty without none behind)
+met_sound first rest spot move without (fails is) behind = rw is tt
+met_sound first rest spot move without (loses place is lost) behind = rw is (inr (inl lost))
 
 pub all_sound : (stack : List Expected) (spot : Spot) → AllSound stack spot (next stack spot)
 all_sound [] spot = tt
