@@ -1,5 +1,5 @@
 -- What a token does with each thing that may come.
-use Rattle.std.proofs.Common.{◌≡◌, ℕ, List, [], ◌∷◌, ◌++◌, refl, ap, append_assoc, arith, Option, Some, None, sym, ◌∙◌, suc}
+use Rattle.std.proofs.Common.{◌≡◌, ℕ, List, [], ◌∷◌, ◌++◌, refl, append_assoc, arith, Option, Some, None, suc}
 use Rattle.std.specs.List.{flat_map}
 use Rattle.std.proofs.lemmas.List.{append-nil}
 use Rattle.terms.specs.declared.key.TheConstants.{MAX_COMPONENTS}
@@ -9,44 +9,21 @@ use Rattle.syntax.specs.declared.token.Word.{Word}
 use Rattle.syntax.specs.declared.token.Word.TheVariants as kept
 use Rattle.syntax.specs.declared.token.Symbol.TheVariants as sign
 use Rattle.syntax.specs.Tokens.{Lexeme, name, word, symbol, Spot}
-use Rattle.syntax.specs.Grammar.{Position, Expr, own, assigned, for, no_more, and_then, Put, put_item, put_tag, StepText, Named, Names, Declaration, item_declared, tag_declared, Relation, prescribes}
+use Rattle.syntax.specs.Grammar.{Position, own, assigned, for, no_more, and_then, put_item, put_tag, StepText, Named, Names, Declaration, item_declared, tag_declared, Relation, prescribes}
 use Rattle.syntax.specs.Grammar.{reads, puts_item, puts_tag, environment_puts_item, environment_puts_tag, environment_gets, GraphText, no_sums, sums}
-use Rattle.syntax.specs.Spelled.{Piece, plain, at, named, expr_pieces, step_pieces, names_pieces, after_colon, relation_pieces, graph_pieces}
+use Rattle.syntax.specs.Spelled.{plain, at, named, step_pieces, graph_pieces}
 use Rattle.syntax.specs.Limits.{one_more, name_limits}
 use Rattle.syntax.specs.Expected.{Part, reading, writing, statements, nested_brace, put_target, step_rest, look, look_statement_word, declarations, front_named, front_closed, relations, reader}
-use Rattle.syntax.specs.Expected.{related, declared_limits, Kind, item, tag, opening, closing, Move, look_relation, Expected, exactly, keyword, a_name, whole, operand, behind_operand, components}
+use Rattle.syntax.specs.Expected.{related, declared_limits, Kind, item, tag, opening, Move, look_relation, Expected, exactly, keyword, a_name, whole, operand, behind_operand, components}
 use Rattle.syntax.specs.Expected.{more_components, or_else, front, component_name, behind_component, steps, step_name, parameters, parameter, behind_parameter, variables, step_variable}
 use Rattle.syntax.specs.Expected.{behind_variable, never, nested, step_name_limits}
-use Rattle.syntax.specs.Statements.{Second, second_pieces, choice_of}
-use Rattle.syntax.proofs.Fillings.{Block, block_pieces, target_pieces, Fillings, fillings_pieces, RelationsAndSteps, relations_and_steps, reader_pieces, collection_pieces, Target, declares, relates}
+use Rattle.syntax.specs.Statements.{choice_of}
+use Rattle.syntax.proofs.Fillings.{Fillings, fillings_pieces, RelationsAndSteps, Target, declares, relates}
 use Rattle.syntax.proofs.Fillings.{Front, with_components, closes, front_pieces}
 use Rattle.syntax.proofs.Turns.{Turn, takes, skips, fails, Begins, loses, turn_if, turn_if_word, turn_exactly, turn_keyword, turn_name, turn_parameters, turn_behind_parameter, turn_behind_variable}
 use Rattle.syntax.proofs.FilledExpressions.{turn_operand, turn_whole, turn_behind}
 
 -- ---- statements
-
--- a condition or two bounds, a block and what follows it
-in_block : (a b more : List Piece) (close open_brace close_brace : Piece)
-    → ((a ++ close ∷ []) ++ (open_brace ∷ (b ++ close_brace ∷ []))) ++ more ≡ a ++ (close ∷ open_brace ∷ (b ++ (close_brace ∷ (more ++ []))))
-in_block a b more close open_brace close_brace = simp (append_assoc, append-nil)
-
-in_blocks : (a b c more : List Piece) (close other open_brace second_brace close_brace : Piece)
-    → ((((a ++ close ∷ []) ++ (open_brace ∷ (b ++ close_brace ∷ []))) ++ other ∷ []) ++ (second_brace ∷ (c ++ close_brace ∷ []))) ++ more
-    ≡ a ++ (close ∷ open_brace ∷ (b ++ (close_brace ∷ other ∷ second_brace ∷ ((c ++ close_brace ∷ []) ++ (more ++ [])))))
-in_blocks a b c more close other open_brace second_brace close_brace = simp (append_assoc, append-nil)
-
-pub in_loop : (from to b more : List Piece) (dots open_brace close_brace : Piece)
-    → (((from ++ dots ∷ []) ++ to) ++ (open_brace ∷ (b ++ close_brace ∷ []))) ++ more ≡ from ++ (dots ∷ (to ++ (open_brace ∷ (b ++ (close_brace ∷ (more ++ []))))))
-in_loop from to b more dots open_brace close_brace = simp (append_assoc, append-nil)
-
-pub if_spelled : (part : Part) (condition : Expr) (brace : Position) (block : Block part) (second : Second part) (more : Block part)
-    → block_pieces part (and_then (choice_of part condition brace block second) more)
-    ≡ plain (word kept.If) ∷ plain (symbol sign.OpenRound) ∷ (expr_pieces condition ++ (plain (symbol sign.CloseRound) ∷ at brace (symbol sign.OpenBrace)
-    ∷ (block_pieces part block ++ (plain (symbol sign.CloseBrace) ∷ (second_pieces part second ++ (block_pieces part more ++ []))))))
-if_spelled part condition brace block second more = grind (arith, in_block, in_blocks)
-
-pub put_spelled : (put : Put) (more : Block writing) → block_pieces writing (and_then (own put) more) ≡ plain (word kept.Put) ∷ (target_pieces put ++ (block_pieces writing more ++ []))
-put_spelled put more = grind (arith, append-nil)
 
 abbrev pub turn_statement_word : (part : Part) (around : ℕ) (it : Word) (place : Position) → Turn (statements part around) (word it, place) (look_statement_word part around it)
 turn_statement_word reading around kept.Get place =
@@ -54,26 +31,17 @@ turn_statement_word reading around kept.Get place =
     let key = later.rest.rest.rest in
     and_then (own (record { variable = later.first; item = record { collection = key.first; components = key.rest.first } })) key.rest.rest.rest.rest.first) refl refl
     (λ later. (plain (word kept.Get), refl, simp (append_assoc, append-nil)))
-turn_statement_word writing around kept.Put place = takes [] _ (λ later. and_then (own later.first) later.rest.first) refl refl (λ later. (plain (word kept.Put), refl, put_spelled later.first later.rest.first))
+turn_statement_word writing around kept.Put place = takes [] _ (λ later. and_then (own later.first) later.rest.first) refl refl (λ later. (plain (word kept.Put), refl, grind (arith, append-nil)))
 turn_statement_word part around kept.If place =
     takes [] _ (λ later.
     let block = later.rest.rest.rest in
     and_then (choice_of part later.rest.first block.first block.rest.first block.rest.rest.rest.first) block.rest.rest.rest.rest.first) refl refl
-    (λ later.
-    let block = later.rest.rest.rest in
-    (plain (word kept.If), refl, if_spelled part later.rest.first block.first block.rest.first block.rest.rest.rest.first block.rest.rest.rest.rest.first))
+    (λ later. (plain (word kept.If), refl, grind (arith, append_assoc, append-nil)))
 turn_statement_word part around kept.For place =
     takes [] _ (λ later.
     let to = later.rest.rest.rest.rest in
     and_then (for later.first later.rest.rest.first to.first to.rest.first to.rest.rest.first) to.rest.rest.rest.rest.first) refl refl
-    (λ later.
-    let to = later.rest.rest.rest.rest in (
-      plain (word kept.For),
-      refl,
-      ap (λ (list : List Piece). plain (word kept.For) ∷ named later.first ∷ plain (word kept.In) ∷ list)
-          (in_loop (expr_pieces later.rest.rest.first) (expr_pieces to.first) (block_pieces part to.rest.rest.first) (block_pieces part to.rest.rest.rest.rest.first)
-          (plain (symbol sign.DoubleDot)) (at to.rest.first (symbol sign.OpenBrace)) (plain (symbol sign.CloseBrace))),
-    ))
+    (λ later. (plain (word kept.For), refl, grind (arith, append_assoc, append-nil)))
 turn_statement_word part around _ place = skips no_more refl refl
 
 abbrev pub turn_statements : (part : Part) (around : ℕ) (lexeme : Lexeme) (place : Position) → Turn (statements part around) (lexeme, place) (look (statements part around) lexeme place)
@@ -98,11 +66,6 @@ turn_target _ place = fails refl
 
 -- ---- steps
 
-pub in_body : (them names read_ones written more : List Piece) (close open_brace close_brace read write : Piece)
-    → ((them ++ close ∷ []) ++ (open_brace ∷ (((((names ++ read ∷ []) ++ (open_brace ∷ (read_ones ++ close_brace ∷ []))) ++ write ∷ []) ++ (open_brace ∷ (written ++ close_brace ∷ []))) ++ close_brace ∷ []))) ++ more
-    ≡ (them ++ (close ∷ open_brace ∷ names)) ++ (read ∷ open_brace ∷ (read_ones ++ (close_brace ∷ write ∷ open_brace ∷ (written ++ (close_brace ∷ close_brace ∷ (more ++ []))))))
-in_body them names read_ones written more close open_brace close_brace read write = simp (append_assoc, append-nil)
-
 -- a step after its first word, and the steps after it
 abbrev pub step_made : (before : ℕ) → Fillings (step_rest before) → StepText
 step_made before later =
@@ -115,7 +78,7 @@ steps_behind before later = later.rest.rest.rest.rest.rest.rest.rest.rest.rest.r
 
 pub step_spelled : (before : ℕ) (later : Fillings (step_rest before))
     → step_pieces (step_made before later) ++ flat_map step_pieces (steps_behind before later) ≡ plain (word kept.Step) ∷ fillings_pieces (step_rest before) later
-step_spelled before later = grind (arith, in_body)
+step_spelled before later = grind (arith, append_assoc, append-nil)
 
 abbrev pub turn_reader : (lexeme : Lexeme) (place : Position) → Turn reader (lexeme, place) (look reader lexeme place)
 turn_reader (symbol sign.OpenRound) place = takes [] _ (λ later. Some later.first) refl refl (λ later. (plain (symbol sign.OpenRound), refl, refl))
@@ -146,41 +109,24 @@ related_as tag place it step = prescribes it step
 abbrev pub one_relation : Relation → RelationsAndSteps → RelationsAndSteps
 one_relation relation them = record { relations = relation ∷ them.relations; steps = them.steps }
 
-pub relation_behind : (relation : Relation) (them : RelationsAndSteps) (pieces : List Piece) → relation_pieces relation ≡ pieces → relations_and_steps (one_relation relation them) ≡ pieces ++ relations_and_steps them
-relation_behind relation them pieces same = grind arith
-
-pub by_step_spelled : (kind : Kind) (place : Position) (step it : Named) (them : RelationsAndSteps) → relations_and_steps (one_relation (put_by_step place step kind it) them)
-    ≡ at place (symbol sign.OpenRound) ∷ named step ∷ plain (symbol sign.CloseRound) ∷ plain (symbol sign.Arrow) ∷ (collection_pieces kind it ++ (plain (symbol sign.Semicolon) ∷ (relations_and_steps them ++ [])))
-by_step_spelled kind place step it them = grind (arith, append-nil)
-
-pub by_environment_spelled : (kind : Kind) (place : Position) (it : Named) (them : RelationsAndSteps) → relations_and_steps (one_relation (put_by_environment place kind it) them)
-    ≡ at place (word kept.Env) ∷ plain (symbol sign.Arrow) ∷ (collection_pieces kind it ++ (plain (symbol sign.Semicolon) ∷ (relations_and_steps them ++ [])))
-by_environment_spelled kind place it them = grind (arith, append-nil)
-
 abbrev pub turn_relation : (lexeme : Lexeme) (place : Position) → Turn relations (lexeme, place) (look_relation lexeme)
 turn_relation (symbol sign.OpenRound) place =
     takes [] _ (λ later. let it = later.rest.rest.rest in one_relation (put_by_step place later.first it.first.first it.first.rest) it.rest.rest.first) refl refl
-    (λ later. let it = later.rest.rest.rest in (at place (symbol sign.OpenRound), (refl, refl), by_step_spelled it.first.first place later.first it.first.rest it.rest.rest.first))
+    (λ later. (at place (symbol sign.OpenRound), (refl, refl), grind (arith, append-nil)))
 turn_relation (word kept.Env) place =
     takes [] _ (λ later. let it = later.rest in one_relation (put_by_environment place it.first.first it.first.rest) it.rest.rest.first) refl refl
-    (λ later. let it = later.rest in (at place (word kept.Env), (refl, refl), by_environment_spelled it.first.first place it.first.rest it.rest.rest.first))
+    (λ later. (at place (word kept.Env), (refl, refl), grind (arith, append-nil)))
 turn_relation (word kept.Step) place =
     takes [] _ (λ later. record { relations = []; steps = step_made 0 later ∷ steps_behind 0 later }) refl refl (λ later. (plain (word kept.Step), refl, step_spelled 0 later))
 turn_relation _ place = skips (record { relations = []; steps = [] }) refl refl
 
--- after the closing bracket of a collection
-pub item_spelled : (place : Position) (it : Named) (target : Option Named) (them : RelationsAndSteps)
-    → relations_and_steps (one_relation (related_as item place it target) them)
-    ≡ at place (symbol sign.OpenBracket) ∷ named it ∷ plain (symbol sign.CloseBracket) ∷ plain (symbol sign.Arrow) ∷ (reader_pieces target ++ (plain (symbol sign.Semicolon) ∷ relations_and_steps them))
-item_spelled place it target them = grind arith
-
 abbrev pub turn_relations : (lexeme : Lexeme) (place : Position) → Turn relations (lexeme, place) (look relations lexeme place)
 turn_relations (symbol sign.OpenBracket) place =
     takes [] _ (λ later. let it = later.rest.rest.rest in one_relation (related_as item place later.first it.first) it.rest.rest.first) refl refl
-    (λ later. let it = later.rest.rest.rest in (at place (symbol sign.OpenBracket), (refl, refl), item_spelled place later.first it.first it.rest.rest.first ∙ simp append-nil))
+    (λ later. (at place (symbol sign.OpenBracket), (refl, refl), grind (arith, append-nil)))
 turn_relations (symbol sign.Less) place =
     takes [] _ (λ later. let it = later.rest.rest.rest.rest in one_relation (prescribes later.first it.first) it.rest.rest.rest.first) refl refl
-    (λ later. let it = later.rest.rest.rest.rest in (plain (symbol sign.Less), refl, relation_behind (prescribes later.first it.first) it.rest.rest.rest.first _ refl ∙ simp append-nil))
+    (λ later. (plain (symbol sign.Less), refl, grind (arith, append-nil)))
 turn_relations lexeme place = turn_relation lexeme place
 
 -- ---- declarations
@@ -200,34 +146,11 @@ graph_of kind place it (with_components names graph) = with_declaration (declare
 graph_of kind place it (closes (declares graph)) = with_declaration (declared_as kind it None) graph
 graph_of kind place it (closes (relates target them)) = without_declarations (one_relation (related_as kind place it target) them)
 
-declared_spelled : (kind : Kind) (it : Named) (its_components : Option Names) (graph : GraphText) → graph_pieces (with_declaration (declared_as kind it its_components) graph)
-    ≡ plain (symbol (opening kind)) ∷ named it ∷ (after_colon its_components ++ (plain (symbol (closing kind)) ∷ plain (symbol sign.Semicolon) ∷ graph_pieces graph))
-declared_spelled kind it its_components graph = grind (arith, append_assoc)
-
-pub in_front : (names graph : List Piece) (close semicolon : Piece) → ((names ++ close ∷ []) ++ semicolon ∷ []) ++ graph ≡ names ++ (close ∷ semicolon ∷ (graph ++ []))
-in_front names graph close semicolon = simp (append_assoc, append-nil)
-
-in_target : (from rest : List Piece) (semicolon : Piece) → from ++ (semicolon ∷ rest) ≡ ((from ++ semicolon ∷ []) ++ rest) ++ []
-in_target from rest semicolon = simp (append_assoc, append-nil)
-
 pub opened : (kind : Kind) (place : Position) (it : Named) (rest : Front kind) → Begins (symbol (opening kind), place) (graph_pieces (graph_of kind place it rest)) ((named it ∷ front_pieces kind rest) ++ [])
-opened kind place it (with_components names graph) = (
-  plain (symbol (opening kind)),
-  refl,
-  declared_spelled kind it (Some names) graph
-      ∙ ap (λ (list : List Piece). plain (symbol (opening kind)) ∷ named it ∷ plain (symbol sign.Colon) ∷ list)
-      (ap (λ (list : List Piece). names_pieces names ++ (plain (symbol (closing kind)) ∷ plain (symbol sign.Semicolon) ∷ list)) (sym (append-nil (graph_pieces graph)))
-      ∙ sym (in_front (names_pieces names) (graph_pieces graph) (plain (symbol (closing kind))) (plain (symbol sign.Semicolon))) ∙ sym (append-nil _)),
-)
-opened kind place it (closes (declares graph)) = (plain (symbol (opening kind)), refl, declared_spelled kind it None graph ∙ simp append-nil)
-opened item place it (closes (relates target them)) = (
-  at place (symbol sign.OpenBracket),
-  (refl, refl),
-  item_spelled place it target them
-      ∙ ap (λ (list : List Piece). at place (symbol sign.OpenBracket) ∷ named it ∷ plain (symbol sign.CloseBracket) ∷ plain (symbol sign.Arrow) ∷ list)
-      (in_target (reader_pieces target) (relations_and_steps them) (plain (symbol sign.Semicolon))),
-)
-opened tag place it (closes (relates step them)) = (plain (symbol sign.Less), refl, relation_behind (prescribes it step) them _ refl ∙ simp append-nil)
+opened kind place it (with_components names graph) = (plain (symbol (opening kind)), refl, grind (arith, append_assoc, append-nil))
+opened kind place it (closes (declares graph)) = (plain (symbol (opening kind)), refl, grind (arith, append_assoc, append-nil))
+opened item place it (closes (relates target them)) = (at place (symbol sign.OpenBracket), (refl, refl), grind (arith, append_assoc, append-nil))
+opened tag place it (closes (relates step them)) = (plain (symbol sign.Less), refl, grind (arith, append_assoc, append-nil))
 
 abbrev pub as_declarations : {spot : Spot} {move : Move} (items tags : ℕ) → Turn relations spot move → Turn (declarations items tags) spot move
 as_declarations {spot} {move} items tags (takes limits more made is may begins) = takes limits more (λ later. without_declarations (made later)) is may begins
@@ -242,16 +165,12 @@ turn_declarations items tags lexeme place = as_declarations items tags (turn_rel
 
 -- ---- the beginnings that declarations and relations share
 
-pub components_spelled : (kind : Kind) (names : Names) (graph : GraphText)
-    → front_pieces kind (with_components names graph) ≡ plain (symbol sign.Colon) ∷ (names_pieces names ++ (plain (symbol (closing kind)) ∷ plain (symbol sign.Semicolon) ∷ (graph_pieces graph ++ [])))
-components_spelled kind names graph = grind (arith, in_front)
-
 abbrev pub turn_front_named : (kind : Kind) (items tags : ℕ) (place : Position) (lexeme : Lexeme) (other : Position) → Turn (front_named kind items tags place) (lexeme, other) (look (front_named kind items tags place) lexeme other)
 turn_front_named item items tags place (symbol sign.CloseBracket) other = takes [] _ (λ later. closes later.first) refl refl (λ later. (plain (symbol sign.CloseBracket), refl, simp append-nil))
 turn_front_named tag items tags place (symbol sign.Greater) other = takes [] _ (λ later. closes later.first) refl refl (λ later. (plain (symbol sign.Greater), refl, simp append-nil))
 turn_front_named kind items tags place (symbol sign.Colon) other =
     takes (declared_limits kind items tags place) _ (λ later. with_components later.first later.rest.rest.rest.first) refl refl
-    (λ later. (plain (symbol sign.Colon), refl, components_spelled kind later.first later.rest.rest.rest.first))
+    (λ later. (plain (symbol sign.Colon), refl, grind (arith, append_assoc, append-nil)))
 turn_front_named _ items tags place _ other = fails refl
 
 abbrev pub turn_front_closed : (kind : Kind) (items tags : ℕ) (place : Position) (lexeme : Lexeme) (other : Position) → Turn (front_closed kind items tags place) (lexeme, other) (look (front_closed kind items tags place) lexeme other)
