@@ -15,9 +15,6 @@ use Rattle.syntax.proofs.Completed.{BegunInFront, front_stays, LostAmong, lost_f
 next_alike : (count : ℕ) (spot : Spot) (spots others : List Spot) → take (suc count) others ≡ take (suc count) (spot ∷ spots) → (more : List Spot) × (others ≡ spot ∷ more) × (take count more ≡ take count spots)
 next_alike count spot spots others same = grind arith
 
-none_alike : (others : List Spot) → take 1 others ≡ [] → others ≡ []
-none_alike others same = grind arith
-
 -- ---- where the machine stops
 
 -- so many more

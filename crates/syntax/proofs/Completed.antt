@@ -43,8 +43,7 @@ not_lost place first none lost = grind arith
 
 none_lost : (place : Position) (stack : List Expected) → fresh stack ≡ true → BegunInFront stack → LostAmong place stack → ⊥
 none_lost place [] new only lost = lost
-none_lost place (first ∷ rest) new only (inl lost) = not_lost place first new lost
-none_lost place (first ∷ rest) new only (inr lost) = none_lost place rest (fresh_rest unknown first rest only) (chain_rest unknown first rest only) lost
+none_lost place (first ∷ rest) new only lost = grind (arith, not_lost, fresh_rest, chain_rest, none_lost place rest)
 
 -- the first of these is lost
 pub record LostFirst (place : Position) (stack : List Expected) : Type 0 where

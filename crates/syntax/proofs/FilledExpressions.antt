@@ -9,7 +9,7 @@ use Rattle.syntax.specs.Tokens.{Lexeme, name, number, symbol, Spot}
 use Rattle.syntax.specs.Grammar.{Position, Expr, Prod, Unary, literal, variable, bracketed, Multiplication, times, over, modulo, Addition, plus, minus, Comparison, equal, not_equal, less, less_or_equal, greater, greater_or_equal}
 use Rattle.syntax.specs.Spelled.{Piece, plain, at, IsPiece, expr_pieces, prod_pieces, unary_pieces, multiplication_sign, addition_sign, comparison_sign}
 use Rattle.syntax.specs.Limits.{name_limits, expr_depth}
-use Rattle.syntax.specs.Expected.{Comparing, never, possible, behind_left, Level, Expression, Expected, whole, operand, behind_operand, Move, taken, left_out, wrong, passed, within, begun, head, look, look_operand, broken_off, finished, level_expr, sum_of, compared_of, product_behind}
+use Rattle.syntax.specs.Expected.{Comparing, never, possible, behind_left, Level, Expression, Expected, whole, operand, behind_operand, Move, taken, left_out, wrong, passed, within, begun, head, look, look_operand, broken_off, finished, level_expr, product_behind}
 use Rattle.syntax.specs.Expected.{negating, bracketing, passing, without_product, awaiting_product, awaiting_sum, awaiting_comparison, closed, look_end, look_close, look_comparison, awaits, read_operand}
 use Rattle.syntax.specs.Partial.{outermost, state_pieces, IsBehind}
 use Rattle.syntax.proofs.Forward.{same_outermost, negating_pieces, bracketing_pieces, operand_pieces, awaiting_product_pieces, awaiting_sum_pieces, awaiting_comparison_pieces, closing_pieces}
@@ -107,14 +107,9 @@ behind_begun state prod it place rest ends = (record { rest = plain it ∷ rest;
 pub ends_here : (state : Expression) (prod : Prod) → state.outer ≡ [] → EndsBehind state prod []
 ends_here state prod none behind = record {
   expr = level_expr state.level prod;
-  fits = subst (λ (outer : List (Level × Position)). Fits (outermost state.level outer) (level_expr state.level prod)) (sym none) (alone state.level.comparing);
+  fits = grind arith;
   spelled = simp (none, behind.0, behind.1, compared_pieces, added_pieces, append_assoc, append-nil);
 }
-  where
-    alone : (comparing : Comparing) → Fits comparing (compared_of comparing (sum_of state.level.sum prod))
-    alone never = (sum_of state.level.sum prod, refl)
-    alone possible = tt
-    alone (behind_left left how) = tt
 
 turn_finished : (state : Expression) (prod : Prod) (spot : Spot) → state.outer ≡ [] → Turn (behind_operand state prod) spot (finished state (level_expr state.level prod))
 turn_finished state prod spot none = by (nat_lt MOST_DEPTH (expr_depth (level_expr state.level prod))) state.passed refl refl
@@ -136,12 +131,8 @@ pub closing_ends : (state : Expression) (level : Level) (place : Position) (oute
     → EndsBehind (without_product (closed state level outer)) (product_behind (closed state level outer) (bracketed place (level_expr state.level prod))) rest
     → EndsBehind state prod (plain (symbol sign.CloseRound) ∷ (rest ++ []))
 closing_ends state level place outer prod rest same ends behind =
-    let inner = closed state level outer in
-    let unary = bracketed place (level_expr state.level prod) in
-    let so_far = operand_pieces inner unary ∙ closing_pieces state level place outer prod same behind.0 behind.1 in
-    let around : outermost (without_product inner).level outer ≡ outermost state.level state.outer =
-    same_outermost (without_product inner).level level outer refl ∙ sym (ap (λ (list : List (Level × Position)). outermost state.level list) same) in
-    ends_as (fits_same _ _ around) (ap (λ (list : List Piece). list ++ rest) so_far ∙ one_behind (state_pieces state ++ prod_pieces prod) (plain (symbol sign.CloseRound)) rest) (ends (refl, refl))
+    let so_far = operand_pieces (closed state level outer) (bracketed place (level_expr state.level prod)) ∙ closing_pieces state level place outer prod same behind.0 behind.1 in
+    ends_as (λ expr fit. grind (arith, same_outermost)) (ap (λ (list : List Piece). list ++ rest) so_far ∙ one_behind (state_pieces state ++ prod_pieces prod) (plain (symbol sign.CloseRound)) rest) (ends (refl, refl))
 
 turn_close : (state : Expression) (outer : List (Level × Position)) (prod : Prod) (place : Position) → state.outer ≡ outer
     → Turn (behind_operand state prod) (symbol sign.CloseRound, place) (look_close state outer prod)

@@ -13,7 +13,7 @@ use Rattle.syntax.specs.declared.tree.Tree.{Tree}
 use Rattle.syntax.specs.declared.token.Symbol.TheVariants as sign
 use Rattle.syntax.specs.declared.tree.Declaration.TheVariants as declares
 use Rattle.syntax.specs.Tokens.{symbol, Spot}
-use Rattle.syntax.specs.Grammar.{Position, Declaration, item_declared, tag_declared}
+use Rattle.syntax.specs.Grammar.{Position}
 use Rattle.syntax.specs.Spelled.{Piece, named, a_sign, declaration_pieces, relation_pieces, step_pieces, ArePieces}
 use Rattle.syntax.specs.Expected.{Kind, Expected, exactly, a_name, front, front_named, front_closed, relations, closing, run, declarations, syntax, steps, graph_expected}
 use Rattle.syntax.specs.Front.{front_of}
@@ -79,10 +79,6 @@ related_stops kind items tags name before middle late after cause begins closed 
     subst (Tells cause after)
     (sym ((front_name kind items tags name before middle begins).goes behind ∙ closed.goes behind ∙ ap (λ stack. run stack late) (append_assoc (relation_rest kind) (relations ∷ []) behind)))
     (stops (relations ∷ behind))
-
--- no limit is passed
-pub none_passed : (one names components counts more : List Position) → one ≡ [] → names ≡ [] → components ++ counts ≡ [] → one ++ ((names ++ components) ++ counts) ++ more ≡ more
-none_passed one names components counts more no_one no_names none = rw (no_one, no_names, none) refl
 
 -- a declaration or a relation after its first token, which is a piece of either
 pub front_begun : (it : Front) {first : Expected} {expected : List Expected} {one two : Piece} (items tags : ℕ) {before middle : List Spot} (after : List Spot)
@@ -150,17 +146,11 @@ none_over most before place others more none = grind arith
 
 pub item_room : {expected : List Expected} {pieces : List Piece} {items tags : ℕ} {before after : List Spot} (name : Name) (count : ℕ)
     → IsDeclarationRest expected pieces items tags (suc items) tags (declares.Item name count) before after → items < MOST_COLLECTIONS
-item_room {expected} {pieces} {items} {tags} name count one = room one.declaration one.is one.within where
-  room : (it : Declaration) → IsDeclaration it (declares.Item name count) → ((more : List Declaration) → declarations_limits items tags (it ∷ more) ≡ declarations_limits (suc items) tags more) → items < MOST_COLLECTIONS
-  room (item_declared named components) is within = none_over MOST_COLLECTIONS items named.1 _ [] (within [])
-  room (tag_declared named components) is within = absurd is
+item_room name count one = grind (arith, one.is, one.within [], none_over)
 
 pub tag_room : {expected : List Expected} {pieces : List Piece} {items tags : ℕ} {before after : List Spot} (name : Name) (count : ℕ)
     → IsDeclarationRest expected pieces items tags items (suc tags) (declares.Tag name count) before after → tags < MOST_COLLECTIONS
-tag_room {expected} {pieces} {items} {tags} name count one = room one.declaration one.is one.within where
-  room : (it : Declaration) → IsDeclaration it (declares.Tag name count) → ((more : List Declaration) → declarations_limits items tags (it ∷ more) ≡ declarations_limits items (suc tags) more) → tags < MOST_COLLECTIONS
-  room (item_declared named components) is within = absurd is
-  room (tag_declared named components) is within = none_over MOST_COLLECTIONS tags named.1 _ [] (within [])
+tag_room name count one = grind (arith, one.is, one.within [], none_over)
 
 -- ---- the whole text
 

@@ -71,30 +71,13 @@ pub covers_then : {a b c : List Position} → Covers a b → Covers b c → Cove
 covers_then {a} {b} {c} one two = grind arith
 
 pub covers_on : {a b c d : List Position} → Covers a b → Covers c d → Covers (a ++ c) (b ++ d)
-covers_on {a} {b} {c} {d} one two = record { none = none; some = some }
-  where
-    none : a ++ c ≡ [] → b ++ d ≡ []
-    none empty = let parts = both_none a c empty in ap (λ (list : List Position). list ++ d) (one.none parts.0) ∙ two.none parts.1
-
-    some : (place : Position) → In place (a ++ c) → In place (b ++ d)
-    some place there = by (in_either place a c there)
-      where
-        by : In place a ⊎ In place c → In place (b ++ d)
-        by (inl front) = in_front place b d (one.some place front)
-        by (inr back) = in_back place b d (two.some place back)
+covers_on {a} {b} {c} {d} one two = record {
+  none = λ empty. grind (arith, both_none a c, one.none, two.none);
+  some = λ place there. grind (arith, in_either place a c, in_front place b d, in_back place b d, one.some place, two.some place);
+}
 
 pub covers_swap : (a b : List Position) → Covers (a ++ b) (b ++ a)
-covers_swap a b = record { none = none; some = some }
-  where
-    none : a ++ b ≡ [] → b ++ a ≡ []
-    none empty = let parts = both_none a b empty in ap (λ (list : List Position). list ++ a) parts.1 ∙ parts.0
-
-    some : (place : Position) → In place (a ++ b) → In place (b ++ a)
-    some place there = by (in_either place a b there)
-      where
-        by : In place a ⊎ In place b → In place (b ++ a)
-        by (inl front) = in_back place b a front
-        by (inr back) = in_front place b a back
+covers_swap a b = record { none = λ empty. grind (arith, both_none a b); some = λ place there. grind (arith, in_either place a b, in_front place b a, in_back place b a) }
 
 pub covers_middle : (a b c d : List Position) → Covers ((a ++ b) ++ (c ++ d)) ((a ++ c) ++ (b ++ d))
 covers_middle a b c d =

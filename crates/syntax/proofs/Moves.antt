@@ -10,11 +10,6 @@ use Rattle.syntax.specs.Expected.{Expected, taken, left_out, wrong, passed, look
 use Rattle.syntax.specs.Parsed.{Spells, Goes, Reads, Stops}
 use Rattle.syntax.specs.Front.{front_of, behind_front}
 
--- the first expected thing takes the next token
-pub took : (first : Expected) (more behind : List Expected) (spots : List Spot) → (front_of spots).0 ≢ unknown → look first (front_of spots).0 (front_of spots).1 ≡ taken more
-    → run (first ∷ behind) spots ≡ run (more ++ behind) (behind_front spots)
-took first more behind spots there e = grind arith
-
 -- it is left out
 pub skipped : (first : Expected) (behind : List Expected) (spots : List Spot) → look first (front_of spots).0 (front_of spots).1 ≡ left_out
     → run (first ∷ behind) spots ≡ run behind spots
@@ -32,9 +27,6 @@ limited first behind [] place e = ap (λ move. ended (met move behind (next behi
 limited first behind (spot ∷ spots) place e = ap (λ move. followed (met move behind (next behind spot)) (spot ∷ spots) (λ after. run after spots)) e
 
 -- ---- pieces
-
-pub spelled_one : (piece : Piece) (spots : List Spot) → (front_of spots).0 ≢ unknown → IsPiece piece (front_of spots) → Spells (piece ∷ []) spots (behind_front spots)
-spelled_one piece spots there is = grind arith
 
 pub spelled_on : (one two : List Piece) (before middle after : List Spot) → Spells one before middle → Spells two middle after → Spells (one ++ two) before after
 spelled_on [] two before middle after first second = grind arith
@@ -67,9 +59,8 @@ stops_behind {expected} {more} {pieces} {before} {middle} others after cause fir
 -- ---- the cursor
 
 pub passed_one : (n : ℕ) (tokens : List Placed) → spots_of (drop (suc n) tokens) ≡ behind_front (spots_of (drop n tokens))
-passed_one zero [] = refl
+passed_one zero tokens = grind arith
 passed_one (suc n) [] = refl
-passed_one zero (token ∷ tokens) = refl
 passed_one (suc n) (token ∷ tokens) = passed_one n tokens
 
 -- one token, and what may come in its place

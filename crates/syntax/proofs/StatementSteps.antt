@@ -10,7 +10,7 @@ use Rattle.syntax.specs.declared.part.Beginning.TheVariants as beginning
 use Rattle.syntax.specs.declared.stop.Stop.{Stop}
 use Rattle.syntax.specs.declared.token.Word.TheVariants as kept
 use Rattle.syntax.specs.Tokens.{word, Spot}
-use Rattle.syntax.specs.Grammar.{Expr, Statement, assigned, if_alone, if_else, Put, put_item, put_tag}
+use Rattle.syntax.specs.Grammar.{Expr, Statement, assigned, if_alone, if_else, Put}
 use Rattle.syntax.specs.Limits.{statement_limits, statements_limits}
 use Rattle.syntax.specs.Spelled.{plain, a_word, in_braces_at, condition_pieces, put_pieces, statement_pieces, statements_pieces}
 use Rattle.syntax.specs.Tree.{IsStatement, AreStatements, AreAll}
@@ -104,24 +104,18 @@ all_limits part around (first ∷ read) = ap (λ limits. statement_limits (own_l
 -- ---- what follows a statement
 
 own_weaker : (part : Part) (it : Own part) (tree : NamedBlock) (P Q : NamedBlock → Type 0) → ((other : NamedBlock) → P other → Q other) → is_own part it tree P → is_own part it tree Q
-own_weaker reading get (block.Get variable collection components rest) P Q weaker is = (is.0, is.1, weaker rest is.2)
-own_weaker reading get _ P Q weaker is = absurd is
-own_weaker writing (put_item item expr) (block.PutItem collection components value rest) P Q weaker is = (is.0, is.1, weaker rest is.2)
-own_weaker writing (put_tag tag) (block.PutTag collection components rest) P Q weaker is = (is.0, weaker rest is.1)
-own_weaker writing put _ P Q weaker is = absurd is
+own_weaker reading it tree P Q weaker is = grind (arith, weaker)
+own_weaker writing it tree P Q weaker is = grind (arith, weaker)
 
 statement_weaker : (part : Part) (statement : Statement (Own part)) (tree : NamedBlock) (P Q : NamedBlock → Type 0) → ((other : NamedBlock) → P other → Q other)
     → IsStatement (is_own part) statement tree P → IsStatement (is_own part) statement tree Q
 statement_weaker part statement tree P Q weaker is = grind (arith, own_weaker)
 
 are_joined : (part : Part) (read : List (Statement (Own part))) (trees : List NamedBlock) → AreAll (IsFirst part) read trees → AreStatements (is_own part) (statements_of read) (joined trees block.End)
-are_joined part [] [] are = refl
-are_joined part [] (tree ∷ trees) are = absurd are
+are_joined part [] trees are = grind arith
 are_joined part (first ∷ read) [] are = absurd are
-are_joined part (first ∷ read) (tree ∷ trees) are =
-    let rest = joined trees block.End in
-    statement_weaker part first _ (λ other. other ≡ rest) (AreStatements (is_own part) (statements_of read))
-    (λ other same. subst (AreStatements (is_own part) (statements_of read)) (sym same) (are_joined part read trees are.1)) (are.0 rest)
+are_joined part (first ∷ read) (tree ∷ trees) are = statement_weaker part first _ (λ other. other ≡ joined trees block.End) (AreStatements (is_own part) (statements_of read))
+    (λ other same. rw same (are_joined part read trees are.1)) (are.0 (joined trees block.End))
 
 pub all_statements : (part : Part) (around : ℕ) (start now after : List Spot) (trees : List NamedBlock) → StatementsSoFar part around start now trees → NoneBegins part around now after
     → AreRead part around (joined trees block.End) start after

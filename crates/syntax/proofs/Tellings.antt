@@ -66,19 +66,12 @@ run_so telling stack (spot ∷ spots) = followed (next_so telling stack spot) (s
 
 -- ---- as the machine reports it
 
-same_place : (first : Expected) (place : Position) → instead first as_told place ≡ passed place
-same_place first place = grind arith
-
 same_move : (first : Expected) (move : Move) → changed (instead first as_told) move ≡ move
 same_move first move = grind arith
 
 same_next : (stack : List Expected) (spot : Spot) → next_so as_told stack spot ≡ next stack spot
 same_next [] spot = refl
 same_next (first ∷ rest) spot = grind (arith, same_move, same_next rest spot)
-
-same_later : (it : Next) (here spots : List Spot) → ((stack : List Expected) → run_so as_told stack spots ≡ run stack spots)
-    → followed it here (λ after. run_so as_told after spots) ≡ followed it here (λ after. run after spots)
-same_later it here spots later = grind arith
 
 pub same_run : (spots : List Spot) (stack : List Expected) → run_so as_told stack spots ≡ run stack spots
 same_run [] stack = grind (arith, same_next)
@@ -88,9 +81,6 @@ pub as_the_machine : (one two : List Spot) (first second : List Expected) → ru
 as_the_machine one two first second same = sym (same_run one first) ∙ same ∙ same_run two second
 
 -- ---- the same tokens are taken
-
-met_on : (change : Position → Move) (move : Move) (rest more : List Expected) (one other : Next) → (one ≡ on more → other ≡ on more) → met move rest one ≡ on more → met (changed change move) rest other ≡ on more
-met_on change move rest more one other behind is = grind arith
 
 pub next_on : (telling : Telling) (stack more : List Expected) (spot : Spot) → next stack spot ≡ on more → next_so telling stack spot ≡ on more
 next_on telling [] more spot is = is
@@ -193,13 +183,6 @@ abbrev pub TellsOnly : Position → Verdict → Type 0
 TellsOnly place accepted = ⊥
 TellsOnly place (syntax rest) = ⊤
 TellsOnly place (too_large other) = other ≡ place
-
-at_end : (sooner : Sooner) (place : Position) (move : Move) (rest : List Expected) (without : Next) → LostMove sooner place move → TellsOnly place (ended (met move rest without))
-at_end sooner place move rest without lost = grind arith
-
-at_token : (sooner : Sooner) (place : Position) (move : Move) (rest : List Expected) (without : Next) (here spots : List Spot) → LostMove sooner place move
-    → ((first : Expected) → Lost sooner place first → TellsOnly place (run_so (of_whole sooner) (first ∷ rest) spots)) → TellsOnly place (followed (met move rest without) here (λ after. run_so (of_whole sooner) after spots))
-at_token sooner place move rest without here spots lost later = grind arith
 
 pub lost_tells : (spots : List Spot) (sooner : Sooner) (place : Position) (first : Expected) (rest : List Expected) → Lost sooner place first → TellsOnly place (run_so (of_whole sooner) (first ∷ rest) spots)
 lost_tells [] sooner place first rest lost = grind (arith, lost_look)
