@@ -219,7 +219,11 @@ thing (nested_brace around) = record { Fills = Position; pieces = λ filling. si
 thing (or_else part around) = record { Fills = Second part; pieces = second_pieces part; limits = second_limits part around }
 thing put_target = record { Fills = Put; pieces = target_pieces; limits = put_limits }
 thing (declarations items tags) = record { Fills = GraphText; pieces = graph_pieces; limits = text_limits items tags }
-thing (front kind items tags) = record { Fills = Both Named (Front kind); pieces = λ filling. named filling.first ∷ front_pieces kind filling.rest; limits = λ filling. name_limits filling.first ++ front_limits kind items tags filling.first.1 filling.rest }
+thing (front kind items tags) = record {
+  Fills = Both Named (Front kind);
+  pieces = λ filling. named filling.first ∷ front_pieces kind filling.rest;
+  limits = λ filling. name_limits filling.first ++ front_limits kind items tags filling.first.1 filling.rest;
+}
 thing (front_named kind items tags at) = record { Fills = Front kind; pieces = front_pieces kind; limits = front_limits kind items tags at }
 thing (front_closed kind items tags at) = record { Fills = Closed kind; pieces = closed_pieces kind; limits = closed_limits kind items tags at }
 thing (component_name before) = record { Fills = Names; pieces = names_pieces; limits = λ filling. component_limits before (all_names (Some filling)) }
@@ -229,9 +233,21 @@ thing reader = record { Fills = Option Named; pieces = reader_pieces; limits = r
 thing related = record { Fills = Both Kind Named; pieces = λ filling. collection_pieces filling.first filling.rest; limits = λ filling. name_limits filling.rest }
 thing (steps before) = record { Fills = List StepText; pieces = flat_map step_pieces; limits = steps_limits before }
 thing (step_name before) = record { Fills = Named; pieces = λ filling. named filling ∷ []; limits = λ filling. name_limits filling ++ one_more MOST_COLLECTIONS before filling.1 }
-thing parameters = record { Fills = StepNames (Option Names); pieces = λ filling. parameters_pieces filling.parameters ++ behind_parameters filling.variables; limits = λ filling. names_limits 0 (all_names filling.parameters) filling.variables }
-thing (parameter before) = record { Fills = StepNames Names; pieces = λ filling. names_pieces filling.parameters ++ behind_parameters filling.variables; limits = λ filling. names_limits before (all_names (Some filling.parameters)) filling.variables }
-thing (behind_parameter before) = record { Fills = StepNames (List Named); pieces = λ filling. more_names filling.parameters ++ behind_parameters filling.variables; limits = λ filling. names_limits before filling.parameters filling.variables }
+thing parameters = record {
+  Fills = StepNames (Option Names);
+  pieces = λ filling. parameters_pieces filling.parameters ++ behind_parameters filling.variables;
+  limits = λ filling. names_limits 0 (all_names filling.parameters) filling.variables;
+}
+thing (parameter before) = record {
+  Fills = StepNames Names;
+  pieces = λ filling. names_pieces filling.parameters ++ behind_parameters filling.variables;
+  limits = λ filling. names_limits before (all_names (Some filling.parameters)) filling.variables;
+}
+thing (behind_parameter before) = record {
+  Fills = StepNames (List Named);
+  pieces = λ filling. more_names filling.parameters ++ behind_parameters filling.variables;
+  limits = λ filling. names_limits before filling.parameters filling.variables;
+}
 thing (variables before) = record { Fills = Option Names; pieces = variables_pieces; limits = λ filling. variable_limits before (all_names filling) }
 thing (step_variable before) = record { Fills = Names; pieces = λ filling. names_pieces filling ++ a_sign sign.Semicolon; limits = λ filling. variable_limits before (all_names (Some filling)) }
 thing (behind_variable before) = record { Fills = List Named; pieces = λ filling. more_names filling ++ a_sign sign.Semicolon; limits = variable_limits before }

@@ -42,7 +42,8 @@ one_listed pieces limits Known (first ∷ read) one reads known none within =
     record { first = first; more = read ++ one ∷ []; reads = reads; known = known; within = flat_none limits (first ∷ read) one none within }
 
 -- a comma comes next, and one more thing
-pub next_spelled : {X : Type 0} {pieces : List X → List Piece} {limits : X → List Position} {Known : List X → Type 0} {from to : Expected} {start now : List Spot} (after : List Spot) (comma : List Piece) (spelled : X → List Piece)
+pub next_spelled : {X : Type 0} {pieces : List X → List Piece} {limits : X → List Position} {Known : List X → Type 0} {from to : Expected} {start now : List Spot}
+    → (after : List Spot) (comma : List Piece) (spelled : X → List Piece)
     → ((first : X) (more : List X) (next : X) → pieces (first ∷ (more ++ next ∷ [])) ≡ pieces (first ∷ more) ++ (comma ++ spelled next)) → (it : Listed pieces limits Known from to start now)
     → Spells comma now after → (next : X) (end : List Spot) → Spells (spelled next) after end → Spells (pieces (it.first ∷ (it.more ++ next ∷ []))) start end
 next_spelled after comma spelled same it taken next end spells = grind (arith, spelled_on)
@@ -87,7 +88,8 @@ is_component tree before after read = grind arith
 abbrev pub SumsRead : List NamedExpression → List Spot → List Spot → Type 0
 SumsRead trees start now = Listed (λ all. sums_pieces (sums_of all)) sum_limits (λ all. AreAll IsSum all trees) components more_components start now
 
-pub one_component : {start now middle : List Spot} (trees : List NamedExpression) (tree : NamedExpression) → ComponentsSoFar start now trees → IsExpression never tree now middle → SumsRead (trees ++ tree ∷ []) start middle
+pub one_component : {start now middle : List Spot} (trees : List NamedExpression) (tree : NamedExpression) → ComponentsSoFar start now trees → IsExpression never tree now middle
+    → SumsRead (trees ++ tree ∷ []) start middle
 one_component {start} {now} {middle} trees tree so_far read =
     let one = is_component tree now middle read in
     one_listed _ sum_limits _ so_far.read one.sum (record { spells = so_far.spells one.sum middle one.reads.spells; goes = λ rest. so_far.goes rest ∙ one.reads.goes (more_components ∷ rest) })

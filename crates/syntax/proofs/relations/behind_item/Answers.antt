@@ -13,8 +13,9 @@ use Rattle.syntax.proofs.relations.behind_item.Goals as goal
 
 pub returns-in_ok-step-in-Symbol-OpenRound-clause-reads : goal.returns-in_ok-step-in-Symbol-OpenRound-clause-reads
 returns-in_ok-step-in-Symbol-OpenRound-clause-reads c =
+    let before = left c.sign.new.self in
     let lexeme = sym c.in-Symbol-OpenRound.ensures ∙ ap symbol c.in-Symbol-OpenRound.field-0-is in
-    let bracket = taken_one reader round_rest (plain (symbol sign.OpenRound)) (left c.sign.new.self) (left c.advance.new.self) (known (left c.sign.new.self) _ lexeme (λ e. cc)) c.advance.ensures (ap look_reader lexeme) lexeme in
+    let bracket = taken_one reader round_rest (plain (symbol sign.OpenRound)) before (left c.advance.new.self) (known before _ lexeme (λ e. cc)) c.advance.ensures (ap look_reader lexeme) lexeme in
     let step = c.in_ok-step-in-Symbol-OpenRound in
     record {
       relation = reads c.args.place (named_of c.args.item) (named_of step.step);
@@ -27,8 +28,9 @@ returns-in_ok-step-in-Symbol-OpenRound-clause-reads c =
 
 pub returns-in_ok-sign-in-Word-Env-clause-reads : goal.returns-in_ok-sign-in-Word-Env-clause-reads
 returns-in_ok-sign-in-Word-Env-clause-reads c =
+    let before = left c.sign.new.self in
     let lexeme = sym c.in-Word-Env.ensures ∙ ap word c.in-Word-Env.field-0-is in
-    let environment = taken_one reader [] (plain (word kept.Env)) (left c.sign.new.self) (left c.advance-in-Word-Env.new.self) (known (left c.sign.new.self) _ lexeme (λ e. cc)) c.advance-in-Word-Env.ensures (ap look_reader lexeme) lexeme in
+    let environment = taken_one reader [] (plain (word kept.Env)) before (left c.advance-in-Word-Env.new.self) (known before _ lexeme (λ e. cc)) c.advance-in-Word-Env.ensures (ap look_reader lexeme) lexeme in
     record {
       relation = environment_gets c.args.place (named_of c.args.item);
       rest = _;

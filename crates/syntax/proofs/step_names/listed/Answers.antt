@@ -38,7 +38,8 @@ returns-then-not-branch-clause-reads c =
     let pushed : c.push_reserved.new.self.items ≡ so_far.names.items ++ name.name ∷ [] = search rules in
     let none : c.in_ok-goes_on.field-0 ≡ false = search rules in λ list.
     subst (λ items. IsListRead c.args.most c.args.close items (left c.args.cursor.now) (left c.goes_on.new.cursor) list) (sym pushed)
-    (last_listed list (so_far.names.items ++ name.name ∷ []) (name_listed list so_far.names.items name.name (so_far.invariant.0 list) room (rw name.ensures.room at name.ensures.reads) name.ensures.within)
+    (last_listed list (so_far.names.items ++ name.name ∷ [])
+    (name_listed list so_far.names.items name.name (so_far.invariant.0 list) room (rw name.ensures.room at name.ensures.reads) name.ensures.within)
     (rw none at c.in_ok-goes_on.ensures.reads))
 
 pub loop-names-preserved : goal.loop-names-preserved
@@ -49,7 +50,8 @@ loop-names-preserved c =
     let pushed : c.push_reserved.new.self.items ≡ so_far.names.items ++ name.name ∷ [] = search rules in
     let some : c.in_ok-goes_on.field-0 ≡ true = search rules in (
       λ list. subst (λ items. ListSoFar c.args.most c.args.close (left c.args.cursor.now) (left c.goes_on.new.cursor) items list) (sym pushed)
-          (next_listed list (so_far.names.items ++ name.name ∷ []) (name_listed list so_far.names.items name.name (so_far.invariant.0 list) room (rw name.ensures.room at name.ensures.reads) name.ensures.within)
+          (next_listed list (so_far.names.items ++ name.name ∷ [])
+          (name_listed list so_far.names.items name.name (so_far.invariant.0 list) room (rw name.ensures.room at name.ensures.reads) name.ensures.within)
           (rw some at c.in_ok-goes_on.ensures.reads)),
       search rules,
       search rules,

@@ -20,8 +20,11 @@ returns-clause-reads c =
     let read = c.in_ok-read.ensures.reads in
     let write = c.in_ok-write.ensures.reads in
     let text : StepText = record { name = named_of c.in_ok-name.name; parameters = parameters.names; variables = variables.names; read = read.block; write = write.block } in
-    let same = body_pieces (variables_pieces text.variables) (a_word kept.Read) (in_braces (statements_pieces get_pieces text.read)) (a_word kept.Write) (in_braces (statements_pieces put_pieces text.write)) (a_sign sign.CloseBrace) in
-    let body = subst (λ pieces. Reads (some_variables (length given) ∷ step_body) [] pieces (left c.sign-2.new.self) (left c.sign-3.new.self)) same (variables.reads ⨟ read.reads ⨟ write.reads ⨟ c.in_ok-sign-3.ensures.reads) in
+    let reads = in_braces (statements_pieces get_pieces text.read) in
+    let writes = in_braces (statements_pieces put_pieces text.write) in
+    let same = body_pieces (variables_pieces text.variables) (a_word kept.Read) reads (a_word kept.Write) writes (a_sign sign.CloseBrace) in
+    let body = subst (λ pieces. Reads (some_variables (length given) ∷ step_body) [] pieces (left c.sign-2.new.self) (left c.sign-3.new.self)) same
+    (variables.reads ⨟ read.reads ⨟ write.reads ⨟ c.in_ok-sign-3.ensures.reads) in
     record {
       text = text;
       reads = c.in_ok-name.ensures.reads ⨟ (c.in_ok-sign.ensures.reads ⨟ reads_on step_body parameters.reads (c.in_ok-sign-2.ensures.reads ⨟ body));
