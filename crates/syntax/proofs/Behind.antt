@@ -1,5 +1,5 @@
 -- Which things may stand behind each other among those that may come; only the first can be an expression that has begun.
-use Rattle.std.proofs.Common.{◌≡◌, Bool, true, false, if◌then◌else◌, List, [], ◌∷◌, ◌++◌, refl}
+use Rattle.std.proofs.Common.{◌≡◌, Bool, true, false, if◌then◌else◌, List, [], ◌∷◌, ◌++◌, refl, arith}
 use Rattle.syntax.specs.declared.token.Word.TheVariants as kept
 use Rattle.syntax.specs.declared.token.Symbol.TheVariants as sign
 use Rattle.syntax.specs.Tokens.{Lexeme, word, symbol, unknown}
@@ -117,30 +117,23 @@ follows expression it (one ∷ second ∷ more) = if is_fresh expression one the
 -- ---- from one token to the next
 
 pub first_of : (one other : Bool) → (if one then other else false) ≡ true → one ≡ true
-first_of true other both = refl
-first_of false other both = both
+first_of one other both = grind arith
 
 pub second_of : (one other : Bool) → (if one then other else false) ≡ true → other ≡ true
-second_of true other both = both
-second_of false other both = absurd (cc)
+second_of one other both = grind arith
 
 both_of : (one other : Bool) → one ≡ true → other ≡ true → (if one then other else false) ≡ true
-both_of true other first second = second
-both_of false other first second = first
+both_of one other first second = grind arith
 
 admits_any : (begun other : Bool) → (if begun then false else other) ≡ true → (if begun then false else true) ≡ true
-admits_any true other e = e
-admits_any false other e = refl
+admits_any begun other e = grind arith
 
 -- what holds of the first class, and then of `anything`, holds of the second
 stays_as : (holds : Class → Bool) (one two : Class) → stays one two ≡ true → (holds one ≡ true → holds anything ≡ true) → holds one ≡ true → holds two ≡ true
-stays_as holds nothing nothing stay any here = here
-stays_as holds one anything stay any here = any here
-stays_as holds _ _ stay any here = cc
+stays_as holds one two stay any here = grind arith
 
 pub chain_rest : (end : Lexeme) (first : Expected) (rest : List Expected) → chain end (first ∷ rest) ≡ true → chain end rest ≡ true
-chain_rest end first [] chained = refl
-chain_rest end first (second ∷ rest) chained = second_of (admits (class first) second) (chain end (second ∷ rest)) chained
+chain_rest end first rest chained = grind (arith, second_of)
 
 pub chain_on : (end : Lexeme) (expression : Bool) (first : Expected) (more rest : List Expected) → follows expression (class first) more ≡ true → chain end (first ∷ rest) ≡ true → chain end (more ++ rest) ≡ true
 chain_on end expression first [] rest follow chained = chain_rest end first rest chained
@@ -161,12 +154,10 @@ fresh [] = true
 fresh (first ∷ rest) = if is_begun first then false else true
 
 pub not_begun : (begun : Bool) → (if begun then false else true) ≡ true → begun ≡ false
-not_begun true e = absurd (cc)
-not_begun false e = refl
+not_begun begun e = grind arith
 
 pub fresh_rest : (end : Lexeme) (first : Expected) (rest : List Expected) → chain end (first ∷ rest) ≡ true → fresh rest ≡ true
-fresh_rest end first [] chained = refl
-fresh_rest end first (second ∷ rest) chained = admits_any (is_begun second) (is_one (class first) second) (first_of (admits (class first) second) (chain end (second ∷ rest)) chained)
+fresh_rest end first rest chained = grind arith
 
 pub fresh_on : (end : Lexeme) (first : Expected) (more rest : List Expected) → follows false (class first) more ≡ true → chain end (first ∷ rest) ≡ true → fresh (more ++ rest) ≡ true
 fresh_on end first [] rest follow chained = fresh_rest end first rest chained

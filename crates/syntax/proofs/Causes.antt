@@ -5,26 +5,15 @@ use Rattle.syntax.specs.Tokens.{Spot, AreTokens, unknown}
 use Rattle.syntax.specs.Grammar.{Position, GraphText}
 use Rattle.syntax.specs.Limits.{graph_limits, IsWithin}
 use Rattle.syntax.specs.Reading.{position_behind, IsSyntaxFault, IsLimitFault}
-use Rattle.syntax.specs.Expected.{Expected, Next, on, nothing_left, at_fault, limit_passed, next, ended, followed, Verdict, accepted, syntax, too_large, run, graph_expected}
-use Rattle.syntax.proofs.Tellings.{Telling, as_told, of_whole, run_so, same_run, run_on, as_the_machine}
+use Rattle.syntax.specs.Expected.{Expected, Next, on, limit_passed, next, followed, Verdict, accepted, syntax, too_large, run, graph_expected}
+use Rattle.syntax.proofs.Tellings.{Telling, as_told, of_whole, run_so, same_run, run_on, as_the_machine, TellsOnly, lost_tells}
 use Rattle.syntax.proofs.Judged.{In, Judged, goes, breaks}
-use Rattle.syntax.proofs.JudgedFillings.{graph_judged, graph_told}
-use Rattle.syntax.proofs.Lost.{TellsOnly, lost_tells}
-use Rattle.syntax.proofs.InFront.{BegunInFront, front_stays, LostAmong, lost_first}
-use Rattle.syntax.proofs.Filled.{AllSound, all_sound}
-use Rattle.syntax.proofs.Completed.{Before, before_none, before_all, before_one, begins_graph}
+use Rattle.syntax.proofs.Walk.{graph_judged, graph_told}
+use Rattle.syntax.proofs.Completed.{BegunInFront, front_stays, LostAmong, lost_first, AllSound, all_sound, Before, before_none, before_all, before_one, begins_graph}
 
 -- the first token is the same, and so are the next `count` ones
 next_alike : (count : ℕ) (spot : Spot) (spots others : List Spot) → take (suc count) others ≡ take (suc count) (spot ∷ spots) → (more : List Spot) × (others ≡ spot ∷ more) × (take count more ≡ take count spots)
-next_alike count spot spots [] same = absurd (cc)
-next_alike count spot spots (first ∷ more) same =
-    let is : first ≡ spot = cc in
-    let behind : take count more ≡ take count spots = cc in
-    (more, ap (λ (it : Spot). it ∷ more) is, behind)
-
-none_alike : (others : List Spot) → take 1 others ≡ [] → others ≡ []
-none_alike [] same = refl
-none_alike (spot ∷ others) same = absurd (cc)
+next_alike count spot spots others same = grind arith
 
 -- ---- where the machine stops
 
@@ -56,18 +45,7 @@ record Reached (stack : List Expected) (spots : List Spot) : Type 0 where
   told : run stack spots ≡ run now rest
 
 here : (stack : List Expected) (spots : List Spot) → BegunInFront stack → Stuck stack spots → Reached stack spots
-here stack spots front stuck = record {
-  count = 0;
-  now = stack;
-  rest = spots;
-  counted = search arith;
-  there = refl;
-  front = front;
-  stuck = stuck;
-  before = λ more before. before;
-  goes = λ telling more others same. (others, same, refl);
-  told = refl;
-}
+here stack spots front stuck = grind arith
 
 reached : (spots : List Spot) (stack : List Expected) → BegunInFront stack → Reached stack spots
 reached [] stack front = here stack [] front tt
@@ -91,39 +69,16 @@ reached (spot ∷ spots) stack front = by (next stack spot) refl (λ after e. re
               (later.0, later.1, ap (run_so telling stack) first.1 ∙ run_on telling stack after spot first.0 e ∙ later.2);
           told = ap (λ (it : Next). followed it (spot ∷ spots) (λ after. run after spots)) e ∙ inner.told;
         }
-    by nothing_left e further = here stack (spot ∷ spots) front (λ after is. absurd (cc))
-    by at_fault e further = here stack (spot ∷ spots) front (λ after is. absurd (cc))
-    by (limit_passed place) e further = here stack (spot ∷ spots) front (λ after is. absurd (cc))
+    by _ e further = here stack (spot ∷ spots) front (λ after is. absurd (cc))
 
 -- ---- syntax
 
 -- there the tokens break off, and so do all that go on with the same one
-broken : (now : List Expected) (rest spots : List Spot) → Stuck now rest → run now rest ≡ syntax spots → (spots ≡ rest) × ((others : List Spot) → take 1 others ≡ take 1 rest → (later : List Spot) × (run now others ≡ syntax later))
-broken now [] spots stuck is = (nowhere (next now (unknown, 0)) is, λ others same. (spots, ap (run now) (none_alike others same) ∙ is))
-  where
-    nowhere : (it : Next) → ended it ≡ syntax spots → spots ≡ []
-    nowhere (on after) told = cc
-    nowhere nothing_left told = cc
-    nowhere at_fault told = cc
-    nowhere (limit_passed place) told = absurd (cc)
-broken now (spot ∷ more) spots stuck is = by (next now spot) refl is
-  where
-    by : (it : Next) → next now spot ≡ it → followed it (spot ∷ more) (λ after. run after more) ≡ syntax spots
-        → (spots ≡ spot ∷ more) × ((others : List Spot) → take 1 others ≡ take 1 (spot ∷ more) → (later : List Spot) × (run now others ≡ syntax later))
-    by (on after) e told = absurd (stuck after e)
-    by (limit_passed place) e told = absurd (cc)
-    by nothing_left e told = (
-      cc,
-      λ others same.
-          let first = next_alike 0 spot more others same in
-          (spot ∷ first.0, ap (run now) first.1 ∙ ap (λ (it : Next). followed it (spot ∷ first.0) (λ after. run after first.0)) e),
-    )
-    by at_fault e told = (
-      cc,
-      λ others same.
-          let first = next_alike 0 spot more others same in
-          (spot ∷ first.0, ap (run now) first.1 ∙ ap (λ (it : Next). followed it (spot ∷ first.0) (λ after. run after first.0)) e),
-    )
+broken : (now : List Expected) (rest spots : List Spot) → Stuck now rest → run now rest ≡ syntax spots → (spots ≡ rest) × ((others : List Spot) → take 1 others ≡ take 1 rest → run now others ≡ syntax others)
+broken now rest spots stuck is = (grind (arith, stuck), λ others same. grind (arith, stuck))
+
+never : (graph : GraphText) (others rest : List Spot) → run graph_expected others ≡ syntax rest → Judged (graph_limits graph) (run graph_expected others) accepted → ⊥
+never graph others rest told judged = grind arith
 
 pub syntax_cause : (text : List ℕ) (spots rest : List Spot) → AreTokens 0 text spots → run graph_expected spots ≡ syntax rest
     → (count : ℕ) × (count ≤ length spots) × (rest ≡ drop count spots) × IsSyntaxFault text (position_behind text spots count)
@@ -144,18 +99,10 @@ syntax_cause text spots rest tokens is =
         before = begins_graph it.count spots (subst (λ (count : ℕ). Before graph_expected count spots) none_more (it.before 0 (before_none it.now it.rest)));
         none = λ goes_on.
             let later = it.goes as_told 1 goes_on.1 (subst (λ (count : ℕ). take count goes_on.1 ≡ take count spots) one_more goes_on.3) in
-            never goes_on.0 goes_on.1 later.0 it.now later.2 (fault.1 later.0 later.1) (graph_told goes_on.0 goes_on.1 goes_on.2);
+            never goes_on.0 goes_on.1 later.0 (as_the_machine goes_on.1 later.0 graph_expected it.now later.2 ∙ fault.1 later.0 later.1) (graph_told goes_on.0 goes_on.1 goes_on.2);
         told = is ∙ ap syntax (fault.0 ∙ it.there);
       },
     )
-  where
-    never : (graph : GraphText) (others later : List Spot) (now : List Expected) → run_so as_told graph_expected others ≡ run_so as_told now later → (rest : List Spot) × (run now later ≡ syntax rest)
-        → Judged (graph_limits graph) (run graph_expected others) accepted → ⊥
-    never graph others later now same broken judged = by broken.0 (as_the_machine others later graph_expected now same ∙ broken.1) judged
-      where
-        by : (rest : List Spot) → run graph_expected others ≡ syntax rest → Judged (graph_limits graph) (run graph_expected others) accepted → ⊥
-        by rest told (goes none same) = cc
-        by rest told (breaks place there same) = cc
 
 -- ---- limits
 
@@ -176,47 +123,26 @@ lost_here now rest place front among =
       few = search arith;
       begins = before_none now rest;
       telling = of_whole lost.lost.0;
-      only = λ others same. subst (λ (it : List Expected). TellsOnly place (run_so (of_whole lost.lost.0) it others)) (sym lost.whole) (lost_tells others lost.lost.0 place lost.first lost.rest lost.lost.1);
+      only = λ others same. grind (arith, lost_tells others lost.lost.0 place lost.first lost.rest lost.lost.1);
     }
 
-same_place : (other place : Position) → too_large other ≡ too_large place → other ≡ place
-same_place other place e = cc
-
 limited : (now : List Expected) (rest : List Spot) (place : Position) → BegunInFront now → Stuck now rest → run now rest ≡ too_large place → Limited now rest place
-limited now [] place front stuck is = lost_here now [] place front (at_end (next now (unknown, 0)) (all_sound now (unknown, 0)) is)
-  where
-    at_end : (it : Next) → AllSound now (unknown, 0) it → ended it ≡ too_large place → LostAmong place now
-    at_end (on after) sound told = absurd (cc)
-    at_end nothing_left sound told = absurd (cc)
-    at_end at_fault sound told = absurd (cc)
-    at_end (limit_passed other) (inl it) told = absurd (it.known refl)
-    at_end (limit_passed other) (inr lost) told = subst (λ (at : Position). LostAmong at now) (same_place other place told) lost
+limited now [] place front stuck is = lost_here now [] place front (grind (arith, all_sound now (unknown, 0)))
 limited now (spot ∷ spots) place front stuck is = by (next now spot) refl (all_sound now spot) is
   where
-    only_here : (other : Position) → next now spot ≡ limit_passed other → other ≡ place → (others : List Spot) → take 1 others ≡ take 1 (spot ∷ spots) → TellsOnly place (run_so as_told now others)
-    only_here other e same others alike =
-        let first = next_alike 0 spot spots others alike in
-        let told = same_run others now ∙ ap (run now) first.1 ∙ ap (λ (it : Next). followed it (spot ∷ first.0) (λ after. run after first.0)) e in
-        subst (TellsOnly place) (sym told) same
-
     by : (it : Next) → next now spot ≡ it → AllSound now spot it → followed it (spot ∷ spots) (λ after. run after spots) ≡ too_large place → Limited now (spot ∷ spots) place
-    by (on after) e sound told = absurd (stuck after e)
-    by nothing_left e sound told = absurd (cc)
-    by at_fault e sound told = absurd (cc)
     by (limit_passed other) e (inl it) told = record {
       more = 1;
       few = search arith;
       begins = before_all now it.after spot spots 0 it.begun (before_none it.after spots);
       telling = as_told;
-      only = only_here other e (same_place other place told);
+      only = λ others alike. grind (arith, same_run);
     }
-    by (limit_passed other) e (inr lost) told = lost_here now (spot ∷ spots) place front (subst (λ (at : Position). LostAmong at now) (same_place other place told) lost)
+    by (limit_passed other) e (inr lost) told = lost_here now (spot ∷ spots) place front (grind arith)
+    by _ e sound told = absurd (grind (arith, stuck))
 
 told_only : (place : Position) (limits : List Position) (verdict : Verdict) → TellsOnly place verdict → Judged limits verdict accepted → In place limits
-told_only place limits verdict only (goes none same) = absurd (subst (TellsOnly place) same only)
-told_only place limits verdict only (breaks other there same) =
-    let is : other ≡ place = subst (TellsOnly place) same only in
-    subst (λ (it : Position). In it limits) is there
+told_only place limits verdict only given = grind arith
 
 pub found : (place : Position) (places : List Position) → In place places → (i : ℕ) × (slice_get places i ≡ Some place)
 found place [] there = absurd there

@@ -51,8 +51,7 @@ pub blanks_within : (text : List ℕ) (place blanks : ℕ) → blanks ≡ prefix
 blanks_within text place blanks e within = omega (arith, prefix_len-le-length is_blank (drop place text), length-drop place text)
 
 first_is_none : (bytes : List ℕ) → 0 < length bytes → BeginsWithout is_blank bytes → is_blank (get_or bytes 0 0) ≡ false
-first_is_none [] some h = absurd (omega arith)
-first_is_none (first ∷ rest) some h = h
+first_is_none bytes some h = grind arith
 
 pub not_blank : (text here : List ℕ) (place blanks : ℕ) → blanks ≡ prefix_len is_blank (drop place text) → here ≡ drop (place + blanks) text → 0 < length here → is_blank (get_or here 0 0) ≡ false
 not_blank text here place blanks e is some =
@@ -65,5 +64,4 @@ not_blank text here place blanks e is some =
 
 pub SoFar-pushed : (text : List ℕ) (place : ℕ) (old new : List Placed) (placed : Placed) → new ≡ old ++ (placed ∷ []) → SoFar text place (spots_of old ++ ((lexeme_of placed.token, placed.place) ∷ []))
     → SoFar text place (spots_of new)
-SoFar-pushed text place old new placed is so_far =
-    subst (λ done. SoFar text place done) (sym (ap spots_of is ∙ map-append _ old (placed ∷ []))) so_far
+SoFar-pushed text place old new placed is so_far = grind (arith, map-append)

@@ -1,5 +1,5 @@
 -- Fillings of an expression and its parts, from one token to the next.
-use Rattle.std.proofs.Common.{◌≡◌, ◌<◌, true, false, Bool, nat_lt, if◌then◌else◌, rules, List, [], ◌∷◌, ◌++◌, Option, Some, None, refl, sym, ap, subst, ◌∙◌, append_assoc}
+use Rattle.std.proofs.Common.{◌≡◌, ◌<◌, true, false, Bool, nat_lt, if◌then◌else◌, rules, List, [], ◌∷◌, ◌++◌, Option, Some, None, refl, sym, ap, subst, ◌∙◌, append_assoc, arith}
 use Rattle.std.specs.Prelude.{⊤}
 use Rattle.std.proofs.lemmas.List.{append-nil}
 use Rattle.syntax.specs.declared.token.Symbol.{Symbol}
@@ -9,14 +9,13 @@ use Rattle.syntax.specs.Tokens.{Lexeme, name, number, symbol, Spot}
 use Rattle.syntax.specs.Grammar.{Position, Expr, Prod, Unary, literal, variable, bracketed, Multiplication, times, over, modulo, Addition, plus, minus, Comparison, equal, not_equal, less, less_or_equal, greater, greater_or_equal}
 use Rattle.syntax.specs.Spelled.{Piece, plain, at, IsPiece, expr_pieces, prod_pieces, unary_pieces, multiplication_sign, addition_sign, comparison_sign}
 use Rattle.syntax.specs.Limits.{name_limits, expr_depth}
-use Rattle.syntax.specs.Expected.{Comparing, never, possible, behind_left, Level, Expression, Expected, whole, operand, behind_operand, Move, taken, left_out, wrong, passed, within, begun, head, look, look_operand, broken_off, finished, level_expr, sum_of, compared_of, product_behind}
+use Rattle.syntax.specs.Expected.{Comparing, never, possible, behind_left, Level, Expression, Expected, whole, operand, behind_operand, Move, taken, left_out, wrong, passed, within, begun, head, look, look_operand, broken_off, finished, level_expr, product_behind}
 use Rattle.syntax.specs.Expected.{negating, bracketing, passing, without_product, awaiting_product, awaiting_sum, awaiting_comparison, closed, look_end, look_close, look_comparison, awaits, read_operand}
 use Rattle.syntax.specs.Partial.{outermost, state_pieces, IsBehind}
-use Rattle.syntax.proofs.Onward.{same_outermost, negating_pieces, bracketing_pieces, operand_pieces, awaiting_product_pieces, awaiting_sum_pieces, awaiting_comparison_pieces, closing_pieces, added_pieces, compared_pieces}
-use Rattle.syntax.proofs.Tellings.{its_depth, within_it}
-use Rattle.syntax.proofs.Lost.{EndsDeep}
+use Rattle.syntax.proofs.Forward.{same_outermost, negating_pieces, bracketing_pieces, operand_pieces, awaiting_product_pieces, awaiting_sum_pieces, awaiting_comparison_pieces, closing_pieces}
+use Rattle.syntax.proofs.Forward.{added_pieces, compared_pieces}
+use Rattle.syntax.proofs.Tellings.{its_depth, within_it, EndsDeep}
 use Rattle.syntax.proofs.Fillings.{◌▸◌, Fits, Ends, EndsOperand, EndsBehind, Filling, filling_pieces, Fillings, fillings_pieces}
-use Rattle.syntax.proofs.Behind.{class, is_expression, follows}
 use Rattle.syntax.proofs.Turns.{is_known, fits, Begins, Turn, takes, skips, fails, loses}
 
 -- a filling that begins with this token, and goes on with `rest`
@@ -51,35 +50,16 @@ Goes state spot wrong = ⊤
 Goes state spot (passed place) = state.passed ≡ Some place
 
 goes_broken : (state : Expression) (spot : Spot) (place : Option Position) → state.passed ≡ place → Goes state spot (broken_off place)
-goes_broken state spot None same = tt
-goes_broken state spot (Some place) same = same
+goes_broken state spot place same = grind arith
 
 -- a sign after which an operand comes still
 goes_awaits : (state more : Expression) (it : Symbol) (place : Position) → ((expr : Expr) → Fits (outermost more.level more.outer) expr → Fits (outermost state.level state.outer) expr)
     → state_pieces more ≡ state_pieces state ++ at place (symbol it) ∷ [] → Goes state (symbol it, place) (awaits more)
-goes_awaits state more it place fit spelled = (
-  refl,
-  λ comparing. refl,
-  λ later.
-      let piece = at place (symbol it) in
-      let same = ap (λ (list : List Piece). list ++ later.first.rest) spelled ∙ one_behind (state_pieces state) piece later.first.rest in
-      (piece, (refl, refl), ends_as fit same later.first.makes),
-)
-
--- a known token may be an operand
-fits_known : (first : Expected) (lexeme : Lexeme) (more : List Expected) → is_known lexeme ≡ true → follows (is_expression first) (class first) more ≡ true → fits first lexeme more ≡ true
-fits_known first lexeme more known may = rw known may
+goes_awaits state more it place fit spelled = grind (arith, one_behind)
 
 -- an operand that is one token
 goes_operand : (state : Expression) (unary : Unary) (piece : Piece) (spot : Spot) → is_known spot.0 ≡ true → unary_pieces unary ≡ piece ∷ [] → IsPiece piece spot → Goes state spot (read_operand state unary)
-goes_operand state unary piece spot known one is = (
-  fits_known (operand state) spot.0 (behind_operand (without_product state) (product_behind state unary) ∷ []) known refl,
-  λ comparing. fits_known (whole comparing) spot.0 (behind_operand (without_product state) (product_behind state unary) ∷ []) known refl,
-  λ later.
-      let so_far = operand_pieces state unary ∙ ap (λ (list : List Piece). state_pieces state ++ list) one in
-      let same = ap (λ (list : List Piece). list ++ later.first.rest) so_far ∙ one_behind (state_pieces state) piece later.first.rest in
-      (piece, is, ends_as (fits_same _ _ (same_outermost (without_product state).level state.level state.outer refl)) same (later.first.makes (refl, refl))),
-)
+goes_operand state unary piece spot known one is = grind (arith, one_behind, operand_pieces, same_outermost)
 
 goes : (state : Expression) (lexeme : Lexeme) (place : Position) → Goes state (lexeme, place) (look_operand state place (head lexeme))
 goes state (symbol sign.Minus) place =
@@ -127,14 +107,9 @@ behind_begun state prod it place rest ends = (record { rest = plain it ∷ rest;
 pub ends_here : (state : Expression) (prod : Prod) → state.outer ≡ [] → EndsBehind state prod []
 ends_here state prod none behind = record {
   expr = level_expr state.level prod;
-  fits = subst (λ (outer : List (Level × Position)). Fits (outermost state.level outer) (level_expr state.level prod)) (sym none) (alone state.level.comparing);
+  fits = grind arith;
   spelled = simp (none, behind.0, behind.1, compared_pieces, added_pieces, append_assoc, append-nil);
 }
-  where
-    alone : (comparing : Comparing) → Fits comparing (compared_of comparing (sum_of state.level.sum prod))
-    alone never = (sum_of state.level.sum prod, refl)
-    alone possible = tt
-    alone (behind_left left how) = tt
 
 turn_finished : (state : Expression) (prod : Prod) (spot : Spot) → state.outer ≡ [] → Turn (behind_operand state prod) spot (finished state (level_expr state.level prod))
 turn_finished state prod spot none = by (nat_lt MOST_DEPTH (expr_depth (level_expr state.level prod))) state.passed refl refl
@@ -156,12 +131,8 @@ pub closing_ends : (state : Expression) (level : Level) (place : Position) (oute
     → EndsBehind (without_product (closed state level outer)) (product_behind (closed state level outer) (bracketed place (level_expr state.level prod))) rest
     → EndsBehind state prod (plain (symbol sign.CloseRound) ∷ (rest ++ []))
 closing_ends state level place outer prod rest same ends behind =
-    let inner = closed state level outer in
-    let unary = bracketed place (level_expr state.level prod) in
-    let so_far = operand_pieces inner unary ∙ closing_pieces state level place outer prod same behind.0 behind.1 in
-    let around : outermost (without_product inner).level outer ≡ outermost state.level state.outer =
-    same_outermost (without_product inner).level level outer refl ∙ sym (ap (λ (list : List (Level × Position)). outermost state.level list) same) in
-    ends_as (fits_same _ _ around) (ap (λ (list : List Piece). list ++ rest) so_far ∙ one_behind (state_pieces state ++ prod_pieces prod) (plain (symbol sign.CloseRound)) rest) (ends (refl, refl))
+    let so_far = operand_pieces (closed state level outer) (bracketed place (level_expr state.level prod)) ∙ closing_pieces state level place outer prod same behind.0 behind.1 in
+    ends_as (λ expr fit. grind (arith, same_outermost)) (ap (λ (list : List Piece). list ++ rest) so_far ∙ one_behind (state_pieces state ++ prod_pieces prod) (plain (symbol sign.CloseRound)) rest) (ends (refl, refl))
 
 turn_close : (state : Expression) (outer : List (Level × Position)) (prod : Prod) (place : Position) → state.outer ≡ outer
     → Turn (behind_operand state prod) (symbol sign.CloseRound, place) (look_close state outer prod)

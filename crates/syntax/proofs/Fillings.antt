@@ -1,6 +1,7 @@
 -- The fillings of each thing that may come: what can stand there, the pieces that it spells and the limits that it passes.
 use Rattle.std.specs.Prelude.{◌≡◌, ⊤, ℕ, suc, List, [], ◌∷◌, ◌++◌, Option, Some, None}
 use Rattle.std.specs.List.{flat_map}
+use Rattle.std.proofs.Common.{◌≡◌, List, [], ◌∷◌, ◌++◌, refl, ap, sym, ◌∙◌, append_assoc, arith}
 use Rattle.terms.specs.declared.key.TheConstants.{MAX_COMPONENTS}
 use Rattle.steptree.specs.declared.slot.TheConstants.{MOST_NAMES}
 use Rattle.steptree.specs.declared.sheet.TheConstants.{MOST_COLLECTIONS}
@@ -8,12 +9,12 @@ use Rattle.syntax.specs.declared.limits.TheConstants.{MOST_BRACES}
 use Rattle.syntax.specs.declared.token.Word.TheVariants as kept
 use Rattle.syntax.specs.declared.token.Symbol.TheVariants as sign
 use Rattle.syntax.specs.Grammar.{Position, Named, Expr, sum_alone, Sum, Prod, Sums, Statements, Put, put_item, put_tag, Names, Relation, StepText, GraphText}
-use Rattle.syntax.specs.Spelled.{Piece, named, a_sign, sign_at, a_word, expr_pieces, sum_pieces, prod_pieces, sums_pieces, item_pieces, tag_pieces, statements_pieces}
-use Rattle.syntax.specs.Spelled.{names_pieces, bracketed_name, angled_name, round_name, relation_pieces, parameters_pieces, variables_pieces, step_pieces, graph_pieces}
+use Rattle.syntax.specs.Spelled.{Piece, named, a_sign, sign_at, a_word, expr_pieces, sum_pieces, prod_pieces, sums_pieces, item_pieces, tag_pieces, statements_pieces, names_pieces, bracketed_name}
+use Rattle.syntax.specs.Spelled.{angled_name, round_name, relation_pieces, parameters_pieces, variables_pieces, step_pieces, graph_pieces}
 use Rattle.syntax.specs.Limits.{one_more, name_limits, sum_limits, expr_limits, sums_limits, put_limits, statements_limits, all_names, declarations_limits, relation_limits, steps_limits}
-use Rattle.syntax.specs.Expected.{Comparing, never, possible, behind_left, Expression, Kind, item, tag, closing, Part, Expected, declared_limits}
-use Rattle.syntax.specs.Expected.{exactly, keyword, a_name, whole, operand, behind_operand, components, more_components, statements, nested_brace, or_else, put_target, declarations, front, front_named, front_closed}
-use Rattle.syntax.specs.Expected.{component_name, behind_component, relations, reader, related, steps, step_name, parameters, parameter, behind_parameter, variables, step_variable, behind_variable}
+use Rattle.syntax.specs.Expected.{Comparing, never, possible, behind_left, Expression, Kind, item, tag, closing, Part, Expected, declared_limits, exactly, keyword, a_name, whole, operand}
+use Rattle.syntax.specs.Expected.{behind_operand, components, more_components, statements, nested_brace, or_else, put_target, declarations, front, front_named, front_closed, component_name}
+use Rattle.syntax.specs.Expected.{behind_component, relations, reader, related, steps, step_name, parameters, parameter, behind_parameter, variables, step_variable, behind_variable}
 use Rattle.syntax.specs.Statements.{Own, own_pieces, own_limits, Second, second_pieces, second_limits}
 use Rattle.syntax.specs.Partial.{outermost, state_pieces, comparison_waiting, IsBehind}
 
@@ -198,95 +199,67 @@ first ▸ rest = record { first = first; rest = rest }
 
 -- ---- all things that may come
 
+-- what can stand there, the pieces that it spells, and the limits that it passes
+pub record Thing : Type 1 where
+  pub Fills : Type 0
+  pub pieces : Fills → List Piece
+  pub limits : Fills → List Position
+
+abbrev pub thing : Expected → Thing
+thing (exactly it) = record { Fills = ⊤; pieces = λ _. a_sign it; limits = λ _. [] }
+thing (keyword it) = record { Fills = ⊤; pieces = λ _. a_word it; limits = λ _. [] }
+thing a_name = record { Fills = Named; pieces = λ filling. named filling ∷ []; limits = name_limits }
+thing (whole comparing) = record { Fills = Whole comparing; pieces = whole_pieces comparing; limits = whole_limits comparing }
+thing (operand state) = record { Fills = ToCome (EndsOperand state); pieces = λ filling. filling.rest; limits = λ _. [] }
+thing (behind_operand state prod) = record { Fills = ToCome (EndsBehind state prod); pieces = λ filling. filling.rest; limits = λ _. [] }
+thing components = record { Fills = Sums; pieces = sums_pieces; limits = sums_limits }
+thing more_components = record { Fills = List Sum; pieces = flat_map comma_and; limits = flat_map sum_limits }
+thing (statements part around) = record { Fills = Block part; pieces = block_pieces part; limits = block_limits part around }
+thing (nested_brace around) = record { Fills = Position; pieces = λ filling. sign_at filling sign.OpenBrace; limits = one_more MOST_BRACES around }
+thing (or_else part around) = record { Fills = Second part; pieces = second_pieces part; limits = second_limits part around }
+thing put_target = record { Fills = Put; pieces = target_pieces; limits = put_limits }
+thing (declarations items tags) = record { Fills = GraphText; pieces = graph_pieces; limits = text_limits items tags }
+thing (front kind items tags) = record {
+  Fills = Both Named (Front kind);
+  pieces = λ filling. named filling.first ∷ front_pieces kind filling.rest;
+  limits = λ filling. name_limits filling.first ++ front_limits kind items tags filling.first.1 filling.rest;
+}
+thing (front_named kind items tags at) = record { Fills = Front kind; pieces = front_pieces kind; limits = front_limits kind items tags at }
+thing (front_closed kind items tags at) = record { Fills = Closed kind; pieces = closed_pieces kind; limits = closed_limits kind items tags at }
+thing (component_name before) = record { Fills = Names; pieces = names_pieces; limits = λ filling. component_limits before (all_names (Some filling)) }
+thing (behind_component before) = record { Fills = List Named; pieces = more_names; limits = component_limits before }
+thing relations = record { Fills = RelationsAndSteps; pieces = relations_and_steps; limits = rest_limits }
+thing reader = record { Fills = Option Named; pieces = reader_pieces; limits = reader_limits }
+thing related = record { Fills = Both Kind Named; pieces = λ filling. collection_pieces filling.first filling.rest; limits = λ filling. name_limits filling.rest }
+thing (steps before) = record { Fills = List StepText; pieces = flat_map step_pieces; limits = steps_limits before }
+thing (step_name before) = record { Fills = Named; pieces = λ filling. named filling ∷ []; limits = λ filling. name_limits filling ++ one_more MOST_COLLECTIONS before filling.1 }
+thing parameters = record {
+  Fills = StepNames (Option Names);
+  pieces = λ filling. parameters_pieces filling.parameters ++ behind_parameters filling.variables;
+  limits = λ filling. names_limits 0 (all_names filling.parameters) filling.variables;
+}
+thing (parameter before) = record {
+  Fills = StepNames Names;
+  pieces = λ filling. names_pieces filling.parameters ++ behind_parameters filling.variables;
+  limits = λ filling. names_limits before (all_names (Some filling.parameters)) filling.variables;
+}
+thing (behind_parameter before) = record {
+  Fills = StepNames (List Named);
+  pieces = λ filling. more_names filling.parameters ++ behind_parameters filling.variables;
+  limits = λ filling. names_limits before filling.parameters filling.variables;
+}
+thing (variables before) = record { Fills = Option Names; pieces = variables_pieces; limits = λ filling. variable_limits before (all_names filling) }
+thing (step_variable before) = record { Fills = Names; pieces = λ filling. names_pieces filling ++ a_sign sign.Semicolon; limits = λ filling. variable_limits before (all_names (Some filling)) }
+thing (behind_variable before) = record { Fills = List Named; pieces = λ filling. more_names filling ++ a_sign sign.Semicolon; limits = variable_limits before }
+
 abbrev pub Filling : Expected → Type 0
-Filling (exactly it) = ⊤
-Filling (keyword it) = ⊤
-Filling a_name = Named
-Filling (whole comparing) = Whole comparing
-Filling (operand state) = ToCome (EndsOperand state)
-Filling (behind_operand state prod) = ToCome (EndsBehind state prod)
-Filling components = Sums
-Filling more_components = List Sum
-Filling (statements part around) = Block part
-Filling (nested_brace around) = Position
-Filling (or_else part around) = Second part
-Filling put_target = Put
-Filling (declarations items tags) = GraphText
-Filling (front kind items tags) = Both Named (Front kind)
-Filling (front_named kind items tags at) = Front kind
-Filling (front_closed kind items tags at) = Closed kind
-Filling (component_name before) = Names
-Filling (behind_component before) = List Named
-Filling relations = RelationsAndSteps
-Filling reader = Option Named
-Filling related = Both Kind Named
-Filling (steps before) = List StepText
-Filling (step_name before) = Named
-Filling parameters = StepNames (Option Names)
-Filling (parameter before) = StepNames Names
-Filling (behind_parameter before) = StepNames (List Named)
-Filling (variables before) = Option Names
-Filling (step_variable before) = Names
-Filling (behind_variable before) = List Named
+Filling expected = (thing expected).Fills
 
 abbrev pub filling_pieces : (expected : Expected) → Filling expected → List Piece
-filling_pieces (exactly it) filling = a_sign it
-filling_pieces (keyword it) filling = a_word it
-filling_pieces a_name filling = named filling ∷ []
-filling_pieces (whole comparing) filling = whole_pieces comparing filling
-filling_pieces (operand state) filling = filling.rest
-filling_pieces (behind_operand state prod) filling = filling.rest
-filling_pieces components filling = sums_pieces filling
-filling_pieces more_components filling = flat_map comma_and filling
-filling_pieces (statements part around) filling = block_pieces part filling
-filling_pieces (nested_brace around) filling = sign_at filling sign.OpenBrace
-filling_pieces (or_else part around) filling = second_pieces part filling
-filling_pieces put_target filling = target_pieces filling
-filling_pieces (declarations items tags) filling = graph_pieces filling
-filling_pieces (front kind items tags) filling = named filling.first ∷ front_pieces kind filling.rest
-filling_pieces (front_named kind items tags at) filling = front_pieces kind filling
-filling_pieces (front_closed kind items tags at) filling = closed_pieces kind filling
-filling_pieces (component_name before) filling = names_pieces filling
-filling_pieces (behind_component before) filling = more_names filling
-filling_pieces relations filling = relations_and_steps filling
-filling_pieces reader filling = reader_pieces filling
-filling_pieces related filling = collection_pieces filling.first filling.rest
-filling_pieces (steps before) filling = flat_map step_pieces filling
-filling_pieces (step_name before) filling = named filling ∷ []
-filling_pieces parameters filling = parameters_pieces filling.parameters ++ behind_parameters filling.variables
-filling_pieces (parameter before) filling = names_pieces filling.parameters ++ behind_parameters filling.variables
-filling_pieces (behind_parameter before) filling = more_names filling.parameters ++ behind_parameters filling.variables
-filling_pieces (variables before) filling = variables_pieces filling
-filling_pieces (step_variable before) filling = names_pieces filling ++ a_sign sign.Semicolon
-filling_pieces (behind_variable before) filling = more_names filling ++ a_sign sign.Semicolon
+filling_pieces expected = (thing expected).pieces
 
 abbrev pub filling_limits : (expected : Expected) → Filling expected → List Position
-filling_limits a_name filling = name_limits filling
-filling_limits (whole comparing) filling = whole_limits comparing filling
-filling_limits components filling = sums_limits filling
-filling_limits more_components filling = flat_map sum_limits filling
-filling_limits (statements part around) filling = block_limits part around filling
-filling_limits (nested_brace around) filling = one_more MOST_BRACES around filling
-filling_limits (or_else part around) filling = second_limits part around filling
-filling_limits put_target filling = put_limits filling
-filling_limits (declarations items tags) filling = text_limits items tags filling
-filling_limits (front kind items tags) filling = name_limits filling.first ++ front_limits kind items tags filling.first.1 filling.rest
-filling_limits (front_named kind items tags at) filling = front_limits kind items tags at filling
-filling_limits (front_closed kind items tags at) filling = closed_limits kind items tags at filling
-filling_limits (component_name before) filling = component_limits before (all_names (Some filling))
-filling_limits (behind_component before) filling = component_limits before filling
-filling_limits relations filling = rest_limits filling
-filling_limits reader filling = reader_limits filling
-filling_limits related filling = name_limits filling.rest
-filling_limits (steps before) filling = steps_limits before filling
-filling_limits (step_name before) filling = name_limits filling ++ one_more MOST_COLLECTIONS before filling.1
-filling_limits parameters filling = names_limits 0 (all_names filling.parameters) filling.variables
-filling_limits (parameter before) filling = names_limits before (all_names (Some filling.parameters)) filling.variables
-filling_limits (behind_parameter before) filling = names_limits before filling.parameters filling.variables
-filling_limits (variables before) filling = variable_limits before (all_names filling)
-filling_limits (step_variable before) filling = variable_limits before (all_names (Some filling))
-filling_limits (behind_variable before) filling = variable_limits before filling
-filling_limits _ filling = []
+filling_limits expected = (thing expected).limits
 
 abbrev pub Fillings : List Expected → Type 0
 Fillings [] = ⊤
@@ -302,3 +275,38 @@ fillings_pieces stack fillings = in_row filling_pieces stack fillings
 
 abbrev pub fillings_limits : (stack : List Expected) → Fillings stack → List Position
 fillings_limits stack fillings = in_row filling_limits stack fillings
+
+-- ---- two lists of things in a row
+
+abbrev pub front_part : (more rest : List Expected) → Fillings (more ++ rest) → Fillings more
+front_part [] rest all = tt
+front_part (first ∷ more) rest all = all.first ▸ front_part more rest all.rest
+
+abbrev pub back_part : (more rest : List Expected) → Fillings (more ++ rest) → Fillings rest
+back_part [] rest all = all
+back_part (first ∷ more) rest all = back_part more rest all.rest
+
+pub parts_pieces : (more rest : List Expected) (all : Fillings (more ++ rest)) → fillings_pieces (more ++ rest) all ≡ fillings_pieces more (front_part more rest all) ++ fillings_pieces rest (back_part more rest all)
+parts_pieces [] rest all = refl
+parts_pieces (first ∷ more) rest all = grind (arith, append_assoc, parts_pieces more rest)
+
+abbrev pub joined : (more rest : List Expected) → Fillings more → Fillings rest → Fillings (more ++ rest)
+joined [] rest ahead back = back
+joined (first ∷ more) rest ahead back = ahead.first ▸ joined more rest ahead.rest back
+
+pub joined_row : {X : Type 0} (of : (expected : Expected) → Filling expected → List X) (more rest : List Expected) (ahead : Fillings more) (back : Fillings rest)
+    → in_row of (more ++ rest) (joined more rest ahead back) ≡ in_row of more ahead ++ in_row of rest back
+joined_row of [] rest ahead back = refl
+joined_row of (first ∷ more) rest ahead back = grind (arith, append_assoc, joined_row of more rest)
+
+front_joined : (more rest : List Expected) (ahead : Fillings more) (back : Fillings rest) → front_part more rest (joined more rest ahead back) ≡ ahead
+front_joined [] rest ahead back = refl
+front_joined (first ∷ more) rest ahead back = grind (arith, front_joined more rest)
+
+back_joined : (more rest : List Expected) (ahead : Fillings more) (back : Fillings rest) → back_part more rest (joined more rest ahead back) ≡ back
+back_joined [] rest ahead back = refl
+back_joined (first ∷ more) rest ahead back = back_joined more rest ahead.rest back
+
+pub parted : (more rest : List Expected) (one two : Fillings more) (three four : Fillings rest) → joined more rest one three ≡ joined more rest two four → (one ≡ two) × (three ≡ four)
+parted more rest one two three four same =
+    (sym (front_joined more rest one three) ∙ ap (front_part more rest) same ∙ front_joined more rest two four, sym (back_joined more rest one three) ∙ ap (back_part more rest) same ∙ back_joined more rest two four)

@@ -1,12 +1,12 @@
 -- What comes first in a text that begins with a letter or a digit.
-use Rattle.std.proofs.Common.{◌≡◌, ◌≢◌, ℕ, ℤ, pos, ◌+◌, ◌^◌, ◌<◌, ◌≤◌, Bool, true, ◌||◌, List, [], ◌∷◌, length, get_or, take, drop, Option, Result, Ok, Err, MatchOption, refl, sym, ap, subst, arith, one-add, take-append-drop}
+use Rattle.std.proofs.Common.{◌≡◌, ◌≢◌, ℕ, ℤ, pos, ◌+◌, ◌<◌, ◌≤◌, Bool, true, ◌||◌, List, [], ◌∷◌, length, get_or, take, drop, Option, Result, MatchOption, refl, sym, subst, arith, one-add, take-append-drop, rules}
 use Rattle.std.specs.Int.{cast_signed, cast_unsigned, w64}
 use Rattle.std.proofs.lemmas.Int.{to_z-of_z}
 use Rattle.std.specs.List.{prefix_len}
-use Rattle.std.specs.Result.{OkIff, result_ok}
+use Rattle.std.specs.Result.{result_ok}
 use Rattle.std.specs.Str.Parse.{digits_value, ParsesSigned}
 use Rattle.std.proofs.lemmas.Bool.Decides.{nat_tests}
-use Rattle.std.proofs.lemmas.Str.Parse.{IsDigitsTest, IsNumeralModel, numerals_by_value, parse_signed_digits}
+use Rattle.std.proofs.lemmas.Str.Parse.{IsDigitsTest, IsNumeralModel, numerals_by_value}
 use Rattle.syntax.specs.Tokens.{AreDigits, BeginsWithout, GREATEST, IsNumeral, IsTooLarge, IsWhole, IsWordText, number, Stands, is_digit, is_letter}
 use Rattle.syntax.proofs.Runs.{passes, stops}
 
@@ -41,14 +41,11 @@ some_digits (first ∷ rest) n e some h empty =
 
 pub numeral : (text : List ℕ) (n value : ℕ) → n ≡ prefix_len is_digit text → 0 < length text → is_digit (get_or text 0 0) ≡ true → digits_value 10 (take n text) ≡ value
     → IsNumeral (take n text) value (drop n text)
-numeral text n value e some h is =
-    (some_digits text n e some h, has_digits text n e, subst (λ k. BeginsWithout is_digit (drop k text)) (sym e) (stops is_digit text), is)
+numeral text n value e some h is = grind (arith, has_digits, some_digits, stops)
 
 pub number_stands : (text : List ℕ) (n : ℕ) (value : ℤ) → n ≡ prefix_len is_digit text → 0 < length text → is_digit (get_or text 0 0) ≡ true
     → digits_value 10 (take n text) ≤ GREATEST → value ≡ pos (digits_value 10 (take n text)) → Stands (number (cast_unsigned w64 value)) text (drop n text)
-number_stands text n value e some h fits is =
-    let same : digits_value 10 (take n text) ≡ cast_unsigned w64 value = sym (ap (cast_unsigned w64) is) in
-    (take n text, sym (take-append-drop n text), numeral text n _ e some h same, subst (λ k. k ≤ GREATEST) same fits)
+number_stands text n value e some h fits is = grind (arith, numeral, take-append-drop)
 
 pub too_large : (text : List ℕ) (n : ℕ) → n ≡ prefix_len is_digit text → 0 < length text → is_digit (get_or text 0 0) ≡ true
     → GREATEST < digits_value 10 (take n text) → IsTooLarge text
@@ -64,19 +61,9 @@ digits_test = record {
 pub own : IsNumeralModel AreDigits (digits_value 10)
 own = numerals_by_value AreDigits digits_test
 
-some_length : (digits : List ℕ) → digits ≢ [] → 0 < length digits
-some_length [] some = absurd (some refl)
-some_length (first ∷ rest) some = omega arith
-
-number_by : {E : Type 0} (length' value : ℕ) (r : Result ℤ E) → 0 < length' → OkIff r ((0 < length') × (value < 2 ^ 63)) (pos value)
-    → MatchOption (result_ok r) (GREATEST < value) (λ (found : ℤ). (value ≤ GREATEST) × (found ≡ pos value))
-number_by length' value (Ok found) some h = let k : value < 2 ^ 63 = h.0.1 in (omega arith, h.1)
-number_by length' value (Err error) some h = let k : value < 2 ^ 63 → ⊥ = λ fits. h (some, fits) in omega arith
-
 pub number_of : {E : Type 0} (digits : List ℕ) (r : Result ℤ E) (o : Option ℤ) → ParsesSigned w64 10 digits r → AreDigits digits → digits ≢ [] → o ≡ result_ok r
     → MatchOption o (GREATEST < digits_value 10 digits) (λ (found : ℤ). (digits_value 10 digits ≤ GREATEST) × (found ≡ pos (digits_value 10 digits)))
-number_of digits r o parses are some is =
-    rw is (number_by (length digits) (digits_value 10 digits) r (some_length digits some) (parse_signed_digits own w64 digits r parses are))
+number_of digits r o parses are some is = search (rules, own)
 
 -- a number of 64 bits keeps its value when it is passed on
 pub passed_on : (value : ℕ) (found : ℤ) → value ≤ GREATEST → found ≡ pos value → cast_signed w64 (cast_unsigned w64 found) ≡ pos value

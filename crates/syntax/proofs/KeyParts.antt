@@ -1,29 +1,54 @@
--- The components of a key, one for one.
-use Rattle.std.proofs.Common.{◌≡◌, List, [], ◌∷◌, ◌++◌, true, false, refl, sym, ap, subst, ◌∙◌, append_assoc}
+-- Things that are read one after another, with commas between them, and the components of a key.
+use Rattle.std.proofs.Common.{◌≡◌, List, [], ◌∷◌, ◌++◌, append_assoc, arith, true, false, refl, sym, subst, ◌∙◌}
 use Rattle.std.specs.List.{flat_map}
 use Rattle.std.proofs.lemmas.List.{append-nil}
 use Rattle.steptree.specs.Tree.{NamedExpression}
 use Rattle.syntax.specs.declared.token.Symbol.TheVariants as sign
 use Rattle.syntax.specs.Tokens.{Spot}
-use Rattle.syntax.specs.Grammar.{Sum, no_sums, sums}
-use Rattle.syntax.specs.Limits.{expr_limits, sum_limits, sums_limits}
-use Rattle.syntax.specs.Spelled.{Piece, a_sign, expr_pieces, sum_pieces, sums_pieces}
-use Rattle.syntax.specs.Tree.{IsExpr, IsSum, AreAll, AreSums}
-use Rattle.syntax.specs.Expected.{never, whole, components, more_components}
+use Rattle.syntax.specs.Grammar.{Position, Sum, no_sums, sums}
+use Rattle.syntax.specs.Spelled.{Piece, a_sign, sum_pieces, sums_pieces}
+use Rattle.syntax.specs.Tree.{AreAll, IsSum}
+use Rattle.syntax.specs.Expected.{Expected, never, whole, components, more_components}
 use Rattle.syntax.specs.Parsed.{Spells, Reads, TakenIf}
+use Rattle.syntax.specs.Limits.{sum_limits}
 use Rattle.syntax.specs.Whole.{IsExpression}
 use Rattle.syntax.specs.Keys.{AreComponents, ComponentsSoFar, sums_of}
 use Rattle.syntax.proofs.Moves.{spelled_on}
 
 pub flat_more : {X Y : Type 0} (f : X → List Y) (xs : List X) (y : X) → flat_map f (xs ++ y ∷ []) ≡ flat_map f xs ++ f y
 flat_more f [] y = append-nil (f y)
-flat_more f (x ∷ xs) y = ap (λ rest. f x ++ rest) (flat_more f xs y) ∙ sym (append_assoc (f x) (flat_map f xs) (f y))
+flat_more f (x ∷ xs) y = grind (arith, append_assoc, flat_more f xs y)
+
+pub flat_none : {X Y : Type 0} (f : X → List Y) (xs : List X) (y : X) → flat_map f xs ≡ [] → f y ≡ [] → flat_map f (xs ++ y ∷ []) ≡ []
+flat_none f xs y none last = rw (flat_more, none) last
 
 pub all_more : {X Y : Type 0} (Is : X → Y → Type 0) (xs : List X) (ys : List Y) (x : X) (y : Y) → AreAll Is xs ys → Is x y → AreAll Is (xs ++ x ∷ []) (ys ++ y ∷ [])
-all_more Is [] [] x y are is = (is, tt)
-all_more Is [] (other ∷ ys) x y are is = absurd are
-all_more Is (other ∷ xs) [] x y are is = absurd are
-all_more Is (first ∷ xs) (second ∷ ys) x y are is = (are.0, all_more Is xs ys x y are.1 is)
+all_more Is [] ys x y are is = grind arith
+all_more Is (first ∷ xs) ys x y are is = grind (arith, all_more Is xs)
+
+-- at least one thing was read, within its limits, and this is known of all
+pub record Listed {X : Type 0} (pieces : List X → List Piece) (limits : X → List Position) (Known : List X → Type 0) (from to : Expected) (start now : List Spot) : Type 0 where
+  pub first : X
+  pub more : List X
+  pub reads : Reads (from ∷ []) (to ∷ []) (pieces (first ∷ more)) start now
+  pub known : Known (first ∷ more)
+  pub within : flat_map limits (first ∷ more) ≡ []
+
+-- one more thing was read
+pub one_listed : {X : Type 0} {from to : Expected} {start now : List Spot} (pieces : List X → List Piece) (limits : X → List Position) (Known : List X → Type 0) (read : List X) (one : X)
+    → Reads (from ∷ []) (to ∷ []) (pieces (read ++ one ∷ [])) start now → Known (read ++ one ∷ []) → flat_map limits read ≡ [] → limits one ≡ [] → Listed pieces limits Known from to start now
+one_listed pieces limits Known [] one reads known none within = record { first = one; more = []; reads = reads; known = known; within = flat_none limits [] one none within }
+one_listed pieces limits Known (first ∷ read) one reads known none within =
+    record { first = first; more = read ++ one ∷ []; reads = reads; known = known; within = flat_none limits (first ∷ read) one none within }
+
+-- a comma comes next, and one more thing
+pub next_spelled : {X : Type 0} {pieces : List X → List Piece} {limits : X → List Position} {Known : List X → Type 0} {from to : Expected} {start now : List Spot}
+    → (after : List Spot) (comma : List Piece) (spelled : X → List Piece)
+    → ((first : X) (more : List X) (next : X) → pieces (first ∷ (more ++ next ∷ [])) ≡ pieces (first ∷ more) ++ (comma ++ spelled next)) → (it : Listed pieces limits Known from to start now)
+    → Spells comma now after → (next : X) (end : List Spot) → Spells (spelled next) after end → Spells (pieces (it.first ∷ (it.more ++ next ∷ []))) start end
+next_spelled after comma spelled same it taken next end spells = grind (arith, spelled_on)
+
+-- ---- the components of a key
 
 pub no_components : (before after : List Spot) → TakenIf sign.Colon false before after → AreComponents [] before after
 no_components before after taken = record {
@@ -46,22 +71,8 @@ first_component before after taken =
 
 -- ---- one more component
 
-pieces_more : (first : Sum) (more : List Sum) (next : Sum) → sums_pieces (sums first (more ++ next ∷ [])) ≡ sums_pieces (sums first more) ++ (a_sign sign.Comma ++ sum_pieces next)
-pieces_more first more next = simp (flat_more, append_assoc)
-
-sums_more : (read : List Sum) (sum next : Sum) → sums_pieces (sums_of ((read ++ sum ∷ []) ++ next ∷ [])) ≡ sums_pieces (sums_of (read ++ sum ∷ [])) ++ (a_sign sign.Comma ++ sum_pieces next)
-sums_more [] sum next = pieces_more sum [] next
-sums_more (first ∷ read) sum next = pieces_more first (read ++ sum ∷ []) next
-
-are_sums : (read : List Sum) (expressions : List NamedExpression) → AreAll IsSum read expressions → AreSums (sums_of read) expressions
-are_sums [] [] are = refl
-are_sums [] (one ∷ expressions) are = absurd are
-are_sums (first ∷ read) [] are = absurd are
-are_sums (first ∷ read) (one ∷ expressions) are = are
-
-limits_of : (read : List Sum) → sums_limits (sums_of read) ≡ flat_map sum_limits read
-limits_of [] = refl
-limits_of (first ∷ read) = refl
+sums_more : (first : Sum) (more : List Sum) (next : Sum) → sums_pieces (sums_of (first ∷ (more ++ next ∷ []))) ≡ sums_pieces (sums_of (first ∷ more)) ++ (a_sign sign.Comma ++ sum_pieces next)
+sums_more first more next = simp (flat_more, append_assoc)
 
 -- an expression without a comparison is a sum
 pub record IsComponent (tree : NamedExpression) (before after : List Spot) : Type 0 where
@@ -71,50 +82,37 @@ pub record IsComponent (tree : NamedExpression) (before after : List Spot) : Typ
   pub within : sum_limits sum ≡ []
 
 pub is_component : (tree : NamedExpression) (before after : List Spot) → IsExpression never tree before after → IsComponent tree before after
-is_component tree before after read =
-    let alone = read.alone refl in
-    record {
-      sum = alone.0;
-      reads = subst (λ expr. Reads (whole never ∷ []) [] (expr_pieces expr) before after) alone.1 read.reads;
-      is = subst (λ expr. IsExpr expr tree) alone.1 read.is;
-      within = subst (λ expr. expr_limits expr ≡ []) alone.1 read.within;
-    }
+is_component tree before after read = grind arith
 
-none_more : (read : List Sum) (sum : Sum) → flat_map sum_limits read ≡ [] → sum_limits sum ≡ [] → flat_map sum_limits (read ++ sum ∷ []) ≡ []
-none_more read sum none within = flat_more sum_limits read sum ∙ ap (λ limits. limits ++ sum_limits sum) none ∙ within
+-- at least one component was read, and these are the trees
+abbrev pub SumsRead : List NamedExpression → List Spot → List Spot → Type 0
+SumsRead trees start now = Listed (λ all. sums_pieces (sums_of all)) sum_limits (λ all. AreAll IsSum all trees) components more_components start now
 
-pub last_component : (before now behind after : List Spot) (expressions : List NamedExpression) (tree : NamedExpression) → ComponentsSoFar before now expressions → IsExpression never tree now behind
-    → TakenIf sign.Comma false behind after → AreComponents (expressions ++ tree ∷ []) before after
-last_component before now behind after expressions tree so_far read taken =
-    let one = is_component tree now behind read in
-    record {
-      sums = sums_of (so_far.read ++ one.sum ∷ []);
-      reads = record {
-        spells = subst (Spells (sums_pieces (sums_of (so_far.read ++ one.sum ∷ []))) before) (sym taken.0) (so_far.spells one.sum behind one.reads.spells);
-        goes = λ rest. so_far.goes rest ∙ one.reads.goes (more_components ∷ rest) ∙ taken.1 more_components (whole never ∷ more_components ∷ []) (λ lexeme place. refl) rest;
-      };
-      are = are_sums (so_far.read ++ one.sum ∷ []) (expressions ++ tree ∷ []) (all_more IsSum so_far.read expressions one.sum tree so_far.are one.is);
-      within = limits_of (so_far.read ++ one.sum ∷ []) ∙ none_more so_far.read one.sum so_far.within one.within;
-    }
+pub one_component : {start now middle : List Spot} (trees : List NamedExpression) (tree : NamedExpression) → ComponentsSoFar start now trees → IsExpression never tree now middle
+    → SumsRead (trees ++ tree ∷ []) start middle
+one_component {start} {now} {middle} trees tree so_far read =
+    let one = is_component tree now middle read in
+    one_listed _ sum_limits _ so_far.read one.sum (record { spells = so_far.spells one.sum middle one.reads.spells; goes = λ rest. so_far.goes rest ∙ one.reads.goes (more_components ∷ rest) })
+    (all_more IsSum so_far.read trees one.sum tree so_far.are one.is) so_far.within one.within
 
-pub next_component : (before now behind after : List Spot) (expressions : List NamedExpression) (tree : NamedExpression) → ComponentsSoFar before now expressions → IsExpression never tree now behind
-    → TakenIf sign.Comma true behind after → ComponentsSoFar before after (expressions ++ tree ∷ [])
-next_component before now behind after expressions tree so_far read taken =
-    let one = is_component tree now behind read in
+pub last_component : {start now after : List Spot} (trees : List NamedExpression) → SumsRead trees start now → TakenIf sign.Comma false now after → AreComponents trees start after
+last_component {start} {now} {after} trees it taken = record {
+  sums = sums it.first it.more;
+  reads = record {
+    spells = subst (Spells (sums_pieces (sums it.first it.more)) start) (sym taken.0) it.reads.spells;
+    goes = λ rest. it.reads.goes rest ∙ taken.1 more_components (whole never ∷ more_components ∷ []) (λ lexeme place. refl) rest;
+  };
+  are = it.known;
+  within = it.within;
+}
+
+pub next_component : {start now after : List Spot} (trees : List NamedExpression) → SumsRead trees start now → TakenIf sign.Comma true now after → ComponentsSoFar start after trees
+next_component trees it taken =
     let comma = taken more_components (whole never ∷ more_components ∷ []) (λ lexeme place. refl) in
     record {
-      read = so_far.read ++ one.sum ∷ [];
-      goes = λ rest. so_far.goes rest ∙ one.reads.goes (more_components ∷ rest) ∙ comma.goes rest;
-      spells = λ next end spells. rw (sums_more so_far.read one.sum next)
-          (spelled_on (sums_pieces (sums_of (so_far.read ++ one.sum ∷ []))) (a_sign sign.Comma ++ sum_pieces next) before behind end (so_far.spells one.sum behind one.reads.spells)
-          (spelled_on (a_sign sign.Comma) (sum_pieces next) behind after end comma.spells spells));
-      are = all_more IsSum so_far.read expressions one.sum tree so_far.are one.is;
-      within = none_more so_far.read one.sum so_far.within one.within;
+      read = it.first ∷ it.more;
+      goes = λ rest. it.reads.goes rest ∙ comma.goes rest;
+      spells = next_spelled _ (a_sign sign.Comma) sum_pieces sums_more it comma.spells;
+      are = it.known;
+      within = it.within;
     }
-
-four_behind : (key close assign value end : List Piece) → (key ++ close) ++ (assign ++ (value ++ end)) ≡ (((key ++ close) ++ assign) ++ value) ++ end
-four_behind key close assign value end = sym (append_assoc ((key ++ close) ++ assign) value end ∙ append_assoc (key ++ close) assign (value ++ end))
-
--- an item, a sign and a value, and a sign after them
-pub value_put : (name : Piece) (key close assign value end : List Piece) → name ∷ ((key ++ close) ++ (assign ++ (value ++ end))) ≡ name ∷ ((((key ++ close) ++ assign) ++ value) ++ end)
-value_put name key close assign value end = ap (λ (pieces : List Piece). name ∷ pieces) (four_behind key close assign value end)

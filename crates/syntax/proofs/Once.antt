@@ -1,25 +1,20 @@
 -- A text has at most one list of tokens.
-use Rattle.std.proofs.Common.{◌≡◌, ◌≢◌, ℕ, ◌+◌, ◌-◌, ◌<◌, ◌≤◌, Bool, true, false, ◌⊎◌, if◌then◌else◌, List, [], ◌∷◌, ◌++◌, length, inl, inr, refl, sym, ap, subst, ◌∙◌, arith}
+use Rattle.std.proofs.Common.{◌≡◌, ◌≢◌, ℕ, ◌+◌, ◌-◌, ◌<◌, ◌≤◌, Bool, true, false, ◌⊎◌, if◌then◌else◌, List, [], ◌∷◌, ◌++◌, length, inl, inr, refl, sym, ap, subst, ◌∙◌, arith, codes, lit≤, lit<}
 use Rattle.std.specs.Str.Parse.{digits_value}
-use Rattle.std.proofs.lemmas.Bool.Decides.{nat_tests}
 use Rattle.std.proofs.lemmas.List.{append-nil}
 use Rattle.syntax.specs.declared.token.Symbol.{Symbol}
-use Rattle.syntax.specs.declared.token.Symbol.TheVariants.{OpenBracket}
-use Rattle.syntax.specs.Tokens.{AreBlank, AreDigits, AreTokens, Begins, BeginsNone, BeginsWithout, IsNumeral, IsTooLarge, IsWhole, IsWordText, Lexeme, name, number, word, symbol, unknown, Spot, Stands, is_blank, is_digit, is_letter, word_text, symbol_text}
+use Rattle.syntax.specs.declared.token.Word.{Word}
+use Rattle.syntax.specs.declared.token.Symbol.TheVariants.{OpenBracket, Colon}
+use Rattle.syntax.specs.Tokens.{AreBlank, AreDigits, AreTokens, Begins, BeginsNone, BeginsWithout, IsNumeral, IsTooLarge, IsWhole, IsWordText, Lexeme, name, number, word, symbol, unknown, Spot}
+use Rattle.syntax.specs.Tokens.{Stands, is_blank, is_digit, is_letter, word_text, symbol_text, TokensExample}
 use Rattle.syntax.proofs.Runs.{Passes, split_once}
-use Rattle.syntax.proofs.Fronts.{is_word_part, letter_part}
-use Rattle.syntax.proofs.Spelled.{same_word, same_symbol}
+use Rattle.syntax.proofs.Fronts.{is_word_part}
+use Rattle.syntax.proofs.Signs.{same_word, same_symbol}
 
 -- ---- the first character
 
 digit_no_letter : (byte : ℕ) → is_digit byte ≡ true → is_letter byte ≡ false
-digit_no_letter byte h = grind (arith, nat_tests)
-
-letter_no_blank : (byte : ℕ) → is_letter byte ≡ true → is_blank byte ≡ false
-letter_no_blank byte h = grind (arith, nat_tests)
-
-digit_no_blank : (byte : ℕ) → is_digit byte ≡ true → is_blank byte ≡ false
-digit_no_blank byte h = grind (arith, nat_tests)
+digit_no_letter byte h = grind arith
 
 -- 0 for a letter, 1 for a digit, 2 for another character, and 3 for a blank or none
 abbrev lead : List ℕ → ℕ
@@ -27,8 +22,7 @@ lead [] = 3
 lead (first ∷ rest) = if is_letter first then 0 else (if is_digit first then 1 else (if is_blank first then 3 else 2))
 
 letter_leads : (text rest bytes : List ℕ) → bytes ≡ text ++ rest → IsWordText text → lead bytes ≡ 0
-letter_leads [] rest bytes e h = absurd h
-letter_leads (first ∷ more) rest bytes e h = ap lead e ∙ ap (λ (b : Bool). if b then 0 else (if is_digit first then 1 else (if is_blank first then 3 else 2))) h.0
+letter_leads text rest bytes e h = grind arith
 
 digit_leads : (digits rest bytes : List ℕ) → bytes ≡ digits ++ rest → digits ≢ [] → AreDigits digits → lead bytes ≡ 1
 digit_leads [] rest bytes e some h = absurd (some refl)
@@ -36,13 +30,10 @@ digit_leads (first ∷ more) rest bytes e some h =
     ap lead e ∙ ap (λ (b : Bool). if b then 0 else (if is_digit first then 1 else (if is_blank first then 3 else 2))) (digit_no_letter first h.0) ∙ ap (λ (b : Bool). if b then 1 else (if is_blank first then 3 else 2)) h.0
 
 sign_leads : (sign : Symbol) (rest : List ℕ) → lead (symbol_text sign ++ rest) ≡ 2
-sign_leads OpenBracket rest = refl
-sign_leads _ rest = refl
+sign_leads sign rest = grind arith
 
 none_leads : (bytes : List ℕ) → BeginsNone bytes → lead bytes ≡ 2
-none_leads [] h = absurd h
-none_leads (first ∷ rest) h =
-    ap (λ (b : Bool). if b then 0 else (if is_digit first then 1 else (if is_blank first then 3 else 2))) h.0 ∙ ap (λ (b : Bool). if b then 1 else (if is_blank first then 3 else 2)) h.1 ∙ ap (λ (b : Bool). if b then 3 else 2) h.2
+none_leads bytes h = grind arith
 
 large_leads : (bytes : List ℕ) → IsTooLarge bytes → lead bytes ≡ 1
 large_leads bytes h = digit_leads h.0 h.1 bytes h.3 h.4.0 h.4.1
@@ -61,34 +52,19 @@ most unknown = 2
 most _ = 0
 
 leads : (lexeme : Lexeme) (bytes rest : List ℕ) → Stands lexeme bytes rest → (least lexeme ≤ lead bytes) × (lead bytes ≤ most lexeme) × (lead bytes < 3)
-leads (name text) bytes rest h = omega (arith, letter_leads text rest bytes h.0 h.1.0)
-leads (word kept) bytes rest h = omega (arith, letter_leads (word_text kept) rest bytes h.0 h.1.0)
-leads (number value) bytes rest h = omega (arith, digit_leads h.0 rest bytes h.1 h.2.0 h.2.1)
-leads (symbol sign) bytes rest h = omega (arith, ap lead h.0 ∙ sign_leads sign rest)
-leads unknown bytes rest h = elim h.1 [ inl large ↦ omega (arith, large_leads bytes large) | inr none ↦ omega (arith, none_leads bytes none) ]
+leads lexeme bytes rest h = grind (arith, digit_leads, large_leads, letter_leads, none_leads, sign_leads)
 
 -- at least one character, and the first is no blank
 abbrev Starts : List ℕ → Type 0
 Starts bytes = BeginsWithout is_blank bytes × (bytes ≢ [])
 
 starts : (lexeme : Lexeme) (bytes rest : List ℕ) → Stands lexeme bytes rest → Starts bytes
-starts lexeme bytes rest stands = by bytes (leads lexeme bytes rest stands).2
-  where
-    no_blank : (byte : ℕ) (letter digit blank : Bool) → is_letter byte ≡ letter → is_digit byte ≡ digit → is_blank byte ≡ blank → (if letter then 0 else (if digit then 1 else (if blank then 3 else 2))) < 3 → is_blank byte ≡ false
-    no_blank byte true digit blank e f g few = letter_no_blank byte e
-    no_blank byte false true blank e f g few = digit_no_blank byte f
-    no_blank byte false false true e f g few = absurd (omega arith)
-    no_blank byte false false false e f g few = g
-
-    by : (bytes : List ℕ) → lead bytes < 3 → Starts bytes
-    by [] few = absurd (omega arith)
-    by (first ∷ rest) few = (no_blank first (is_letter first) (is_digit first) (is_blank first) refl refl refl few, λ none. absurd (cc))
+starts lexeme bytes rest stands = grind (arith, leads)
 
 -- ---- the first token
 
 word_passes : (text : List ℕ) → IsWordText text → Passes is_word_part text
-word_passes [] h = absurd h
-word_passes (first ∷ rest) h = (letter_part first h.0, h.1)
+word_passes text h = grind arith
 
 same_texts : (one two r s : List ℕ) → one ++ r ≡ two ++ s → IsWhole one r → IsWhole two s → (one ≡ two) × (r ≡ s)
 same_texts one two r s e h k = split_once is_word_part one two r s (word_passes one h.0) (word_passes two k.0) h.1 k.1 e
@@ -114,10 +90,7 @@ no_sign [] sign h begins = h
 no_sign (first ∷ rest) sign h begins = h.3 sign begins
 
 never_large : (bytes rest : List ℕ) (value : ℕ) → Stands (number value) bytes rest → IsTooLarge bytes ⊎ BeginsNone bytes → ⊥
-never_large bytes rest value x h = elim h [
-  | inl large ↦ let same = same_digits x.0 large.0 rest large.1 value large.2 (sym x.1 ∙ large.3) x.2 large.4 in omega (arith, same.0, x.3, large.5)
-  | inr none ↦ omega (arith, digit_leads x.0 rest bytes x.1 x.2.0 x.2.1, none_leads bytes none)
-]
+never_large bytes rest value x h = grind (arith, digit_leads, none_leads, same_digits)
 
 never_sign : (bytes rest : List ℕ) (sign : Symbol) → Stands (symbol sign) bytes rest → IsTooLarge bytes ⊎ BeginsNone bytes → ⊥
 never_sign bytes rest sign x h = elim h [
@@ -154,8 +127,7 @@ blank_is_none lexeme bytes blanks here rest all e front stands =
     begins.1 (sym same.1)
 
 same_lists : (spot spot' : Spot) (more more' : List Spot) → spot.0 ≡ spot'.0 → spot.1 ≡ spot'.1 → more ≡ more' → spot ∷ more ≡ spot' ∷ more'
-same_lists spot spot' more more' lexemes places tails =
-    ap (λ (l : Lexeme). let s : Spot = (l, spot.1) in s ∷ more) lexemes ∙ ap (λ (n : ℕ). let s : Spot = (spot'.0, n) in s ∷ more) places ∙ ap (λ (rest : List Spot). spot' ∷ rest) tails
+same_lists spot spot' more more' lexemes places tails = grind arith
 
 pub once : (one two : List Spot) (at : ℕ) (bytes : List ℕ) → AreTokens at bytes one → AreTokens at bytes two → one ≡ two
 once [] [] at bytes x y = refl
@@ -174,3 +146,65 @@ once (spot ∷ more) (spot' ∷ more') at bytes x y =
     let tails : more ≡ more' = once more more' _ x.2 x.7 rest in
     let lexemes : spot.0 ≡ spot'.0 = token.0 in
     same_lists spot spot' more more' lexemes place tails
+
+-- ---- two examples
+
+heads : (c d : ℕ) (r s : List ℕ) → c ∷ r ≡ d ∷ s → c ≡ d
+heads c d r s e = cc
+
+tails : (c d : ℕ) (r s : List ℕ) → c ∷ r ≡ d ∷ s → r ≡ s
+tails c d r s e = cc
+
+-- no sign that begins with `[` is longer
+open_longest : (rest : List ℕ) (other : Symbol) → Begins (symbol_text other) (91 ∷ rest) → length (symbol_text other) ≤ 1
+open_longest rest other h = grind arith
+
+-- no sign that begins with `:` before a digit is longer
+colon_longest : (rest : List ℕ) (other : Symbol) → Begins (symbol_text other) (58 ∷ 49 ∷ rest) → length (symbol_text other) ≤ 1
+colon_longest rest other h = grind arith
+
+-- a word of one letter is not reserved
+is_a_name : (letter : ℕ) (kept : Word) → letter ∷ [] ≢ word_text kept
+is_a_name letter kept = grind arith
+
+bracket : Stands (symbol OpenBracket) (codes "[x :12") (codes "x :12")
+bracket = (refl, open_longest (codes "x :12"))
+
+x_name : Stands (name (codes "x")) (codes "x :12") (codes " :12")
+x_name = (refl, ((refl, tt), refl), is_a_name 120)
+
+colon : Stands (symbol Colon) (codes ":12") (codes "12")
+colon = (refl, colon_longest (codes "2"))
+
+twelve : Stands (number 12) (codes "12") []
+twelve = (codes "12", refl, (λ none. cc, (refl, (refl, tt)), tt, refl), lit≤ tt)
+
+a_name : Stands (name (codes "a")) (codes "a 9223372036854775808 b") (codes " 9223372036854775808 b")
+a_name = (refl, ((refl, tt), refl), is_a_name 97)
+
+large : Stands unknown (codes "9223372036854775808 b") []
+large = (
+  refl,
+  inl (
+    codes "9223372036854775808",
+    codes " b",
+    9223372036854775808,
+    refl,
+    (λ none. cc, (refl, (refl, (refl, (refl, (refl, (refl, (refl, (refl, (refl, (refl, (refl, (refl, (refl, (refl, (refl, (refl, (refl, (refl, (refl, tt))))))))))))))))))), refl, refl),
+    lit< tt,
+  ),
+)
+
+-- one token, and those after it
+token : (place : ℕ) (blanks here rest : List ℕ) (lexeme : Lexeme) (more : List Spot) → AreBlank blanks → Stands lexeme here rest → AreTokens (place + length blanks + (length here - length rest)) rest more
+    → AreTokens place (blanks ++ here) ((lexeme, place + length blanks) ∷ more)
+token place blanks here rest lexeme more none stands later = (blanks, here, rest, refl, none, refl, stands, later)
+
+pub example : TokensExample
+example = (
+  token 0 [] (codes "[x :12") (codes "x :12") (symbol OpenBracket) ((name (codes "x"), 1) ∷ (symbol Colon, 3) ∷ (number 12, 4) ∷ []) tt bracket
+      (token 1 [] (codes "x :12") (codes " :12") (name (codes "x")) ((symbol Colon, 3) ∷ (number 12, 4) ∷ []) tt x_name
+      (token 2 (codes " ") (codes ":12") (codes "12") (symbol Colon) ((number 12, 4) ∷ []) (refl, tt) colon (token 4 [] (codes "12") [] (number 12) [] tt twelve tt))),
+  token 0 [] (codes "a 9223372036854775808 b") (codes " 9223372036854775808 b") (name (codes "a")) ((unknown, 2) ∷ []) tt a_name
+      (token 1 (codes " ") (codes "9223372036854775808 b") [] unknown [] (refl, tt) large tt),
+)

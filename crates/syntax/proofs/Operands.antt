@@ -1,5 +1,5 @@
 -- Operands, as operators make them.
-use Rattle.std.proofs.Common.{◌≡◌, ℕ, ◌-◌, ◌+◌, ◌<◌, ◌≤◌, List, [], ◌∷◌, length, sym, subst, arith, Box, Global, inl, inr}
+use Rattle.std.proofs.Common.{◌≡◌, ℕ, ◌-◌, ◌+◌, ◌<◌, ◌≤◌, List, [], ◌∷◌, length, sym, subst, arith, Box, Global}
 use Rattle.steptree.specs.Tree.{NamedExpression, Negation}
 use Rattle.syntax.specs.declared.limits.TheConstants.{MOST_DEPTH}
 use Rattle.syntax.specs.declared.operand.Operand.TheVariants.{Kept}
@@ -28,15 +28,11 @@ negated_depth (position ∷ positions) unary = omega (arith, negated_depth posit
 
 pub negated_kept : (times depth : ℕ) (positions : List Position) (unary : Unary) (tree new : NamedExpression) → times ≤ MOST_DEPTH - depth → Counts (length positions) times
     → HoldsUnary unary (Kept tree depth) → (length positions ≡ times → IsUnary unary tree → IsUnary (negated_by positions unary) new) → HoldsUnary (negated_by positions unary) (Kept new (depth + times))
-negated_kept times depth positions unary tree new few (inl same) holds made =
-    let deep = negated_depth positions unary in
-    (omega (arith, deep, same, holds.0), omega (arith, deep, same, holds.0, holds.1, few), made (sym same) holds.2)
-negated_kept times depth positions unary tree new few (inr many) holds made = absurd (omega (arith, many.0, few))
+negated_kept times depth positions unary tree new few given holds made = grind (arith, negated_depth)
 
 pub negated_too_many : (times depth : ℕ) (positions : List Position) (unary : Unary) (tree : NamedExpression) → MOST_DEPTH - depth < times → Counts (length positions) times
     → HoldsUnary unary (Kept tree depth) → MOST_DEPTH < unary_depth (negated_by positions unary)
-negated_too_many times depth positions unary tree many (inl same) holds = omega (arith, negated_depth positions unary, same, many, holds.0, holds.1)
-negated_too_many times depth positions unary tree many (inr both) holds = omega (arith, negated_depth positions unary, both.1)
+negated_too_many times depth positions unary tree many given holds = grind (arith, negated_depth)
 
 pub negated_too_deep : (positions : List Position) (unary : Unary) → MOST_DEPTH < unary_depth unary → MOST_DEPTH < unary_depth (negated_by positions unary)
 negated_too_deep positions unary deep = omega (arith, negated_depth positions unary, deep)

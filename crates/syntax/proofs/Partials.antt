@@ -1,5 +1,5 @@
 -- What the parser keeps of an expression.
-use Rattle.std.proofs.Common.{◌≡◌, ℕ, ◌≤◌, ◌<◌, suc, true, false, List, [], ◌∷◌, ◌++◌, length, reverse, refl, sym, ap, subst, ◌∙◌, arith, Some, None, if◌then◌else◌, nat_lt, Option, rules, Vec, Global}
+use Rattle.std.proofs.Common.{◌≡◌, ℕ, ◌≤◌, ◌<◌, true, false, List, [], ◌∷◌, ◌++◌, length, reverse, refl, ap, ◌∙◌, arith, if◌then◌else◌, nat_lt, rules, Vec, Global}
 use Rattle.std.proofs.lemmas.List.{reverse-append, length-reverse}
 use Rattle.syntax.specs.declared.limits.TheConstants.{MOST_BRACKETS}
 use Rattle.syntax.specs.declared.partial.Level.{Level as Kept_level}
@@ -8,14 +8,12 @@ use Rattle.syntax.specs.Grammar.{Position}
 use Rattle.syntax.specs.declared.limits.TheConstants.{MOST_NAME_BYTES}
 use Rattle.syntax.specs.Limits.{one_more, name_limits}
 use Rattle.syntax.specs.Tree.{AreAll}
-use Rattle.syntax.specs.Expected.{Level, Expression, opened, possible, bracketing, passing, earlier}
+use Rattle.syntax.specs.Expected.{Level, Expression, opened, possible, bracketing, passing}
 use Rattle.syntax.specs.Partial.{IsLevel, IsPartial}
 
 pub as_many : {X Y : Type 0} (Is : X → Y → Type 0) (xs : List X) (ys : List Y) → AreAll Is xs ys → length xs ≡ length ys
-as_many Is [] [] are = refl
-as_many Is [] (y ∷ ys) are = absurd are
-as_many Is (x ∷ xs) [] are = absurd are
-as_many Is (x ∷ xs) (y ∷ ys) are = ap suc (as_many Is xs ys are.1)
+as_many Is [] ys are = grind arith
+as_many Is (x ∷ xs) ys are = grind (arith, as_many Is xs)
 
 empty : {X : Type 0} (xs : List X) → length xs ≡ 0 → xs ≡ []
 empty [] e = refl
@@ -31,27 +29,13 @@ few_more most before place few = let less : nat_lt before most ≡ true = search
 pub too_many_more : (most before : ℕ) (place : Position) → most ≤ before → one_more most before place ≡ place ∷ []
 too_many_more most before place many = let not_less : nat_lt before most ≡ false = search rules in ap (λ b. if b then [] else place ∷ []) not_less
 
-pub earlier_same : (passed : Option Position) → earlier passed [] ≡ passed
-earlier_same None = refl
-earlier_same (Some place) = refl
-
 -- no limit is passed here
 pub not_passed : (state : Expression) (kept : Partial) (places : List Position) → places ≡ [] → IsPartial state kept → IsPartial (passing state places) kept
-not_passed state kept places none is = record {
-  first = is.first;
-  passed = is.passed ∙ sym (ap (earlier state.passed) none ∙ earlier_same state.passed);
-  level = is.level;
-  outer = is.outer;
-}
+not_passed state kept places none is = grind arith
 
 pub bracket_opened : (state : Expression) (kept new : Partial) (place : Position) → IsPartial (passing state (one_more MOST_BRACKETS (length state.outer) place)) kept
     → new.first ≡ kept.first → new.passed ≡ kept.passed → IsLevel (opened possible) new.level → new.outer.items ≡ kept.outer.items ++ kept.level ∷ [] → IsPartial (bracketing state place) new
-bracket_opened state kept new place is first passed level outer = record {
-  first = first ∙ is.first;
-  passed = passed ∙ is.passed;
-  level = level;
-  outer = subst (AreAll (λ (around : Level × Position). IsLevel around.0) ((state.level, place) ∷ state.outer)) (sym (ap reverse outer ∙ reverse-append kept.outer.items (kept.level ∷ []))) (is.level, is.outer);
-}
+bracket_opened state kept new place is first passed level outer = grind (arith, reverse-append)
 
 pub long_name : (text : List ℕ) (place : Position) → MOST_NAME_BYTES < length text → name_limits (text, place) ≡ place ∷ []
 long_name text place long = let more : nat_lt MOST_NAME_BYTES (length text) ≡ true = search rules in ap (λ b. if b then place ∷ [] else []) more
@@ -74,15 +58,8 @@ split state kept rest around [] e are = absurd are
 split state kept rest around (one ∷ outer) e are = record { level = one.0; place = one.1; outer = outer; is = e; outside = are.0; others = are.1 }
 
 pub popped : (state : Expression) (kept : Partial) (rest : List Kept_level) (around : Kept_level) → kept.outer.items ≡ rest ++ around ∷ [] → IsPartial state kept → Around state kept rest around
-popped state kept rest around items is =
-    split state kept rest around state.outer refl
-    (subst (AreAll (λ (one : Level × Position). IsLevel one.0) state.outer) (ap reverse items ∙ reverse-append rest (around ∷ [])) is.outer)
+popped state kept rest around items is = grind (arith, reverse-append, split)
 
 -- the same levels in another vector
 pub still : (state : Expression) (kept : Partial) (outer : Vec Kept_level Global) → outer.items ≡ kept.outer.items → IsPartial state kept → IsPartial state (record kept { outer = outer })
-still state kept outer same is = record {
-  first = is.first;
-  passed = is.passed;
-  level = is.level;
-  outer = subst (λ levels. AreAll (λ (around : Level × Position). IsLevel around.0) state.outer (reverse levels)) (sym same) is.outer;
-}
+still state kept outer same is = grind arith

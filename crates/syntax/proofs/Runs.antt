@@ -1,5 +1,5 @@
 -- The longest prefix of a text that passes a test, and a text of ASCII.
-use Rattle.std.proofs.Common.{◌≡◌, ℕ, ◌+◌, ◌<◌, ◌≤◌, zero, suc, Bool, true, false, cond, List, [], ◌∷◌, ◌++◌, length, take, drop, refl, sym, subst, arith, lit<, one-add}
+use Rattle.std.proofs.Common.{◌≡◌, ℕ, ◌+◌, ◌<◌, ◌≤◌, zero, suc, Bool, true, false, cond, List, [], ◌∷◌, ◌++◌, length, take, drop, refl, sym, subst, arith, lit<}
 use Rattle.std.specs.List.{AllByRecursion, prefix_len, take_while}
 use Rattle.std.specs.Str.{IsAscii, IsCharBoundary}
 use Rattle.std.proofs.lemmas.Str.{IsCharBoundary-from_ascii}
@@ -10,8 +10,7 @@ abbrev pub Passes : (ℕ → Bool) → List ℕ → Type 0
 Passes is bytes = AllByRecursion (λ byte. is byte ≡ true) bytes
 
 passes_by : (is : ℕ → Bool) (first : ℕ) (rest : List ℕ) (b : Bool) → is first ≡ b → Passes is (take_while is rest) → Passes is (cond b (first ∷ take_while is rest) [])
-passes_by is first rest true e h = (e, h)
-passes_by is first rest false e h = tt
+passes_by is first rest b e h = grind arith
 
 pub passes : (is : ℕ → Bool) (bytes : List ℕ) → Passes is (take (prefix_len is bytes) bytes)
 passes is [] = tt
@@ -19,8 +18,7 @@ passes is (first ∷ rest) = subst (Passes is) (sym (take_while-cons is first re
 
 stops_by : (is : ℕ → Bool) (first : ℕ) (rest : List ℕ) (b : Bool) → is first ≡ b → BeginsWithout is (drop (prefix_len is rest) rest)
     → BeginsWithout is (drop (cond b (1 + prefix_len is rest) 0) (first ∷ rest))
-stops_by is first rest true e h = rw one-add h
-stops_by is first rest false e h = e
+stops_by is first rest b e h = grind arith
 
 pub stops : (is : ℕ → Bool) (bytes : List ℕ) → BeginsWithout is (drop (prefix_len is bytes) bytes)
 stops is [] = tt

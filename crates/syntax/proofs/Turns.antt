@@ -1,5 +1,5 @@
 -- What a token does with a thing that may come: the move of the machine, and what the fillings become.
-use Rattle.std.proofs.Common.{◌≡◌, ◌==◌, ℕ, Bool, true, false, if◌then◌else◌, List, [], ◌∷◌, ◌++◌, Some, None, refl, sym, ap, append_assoc, slice_get, rules, ◌∙◌}
+use Rattle.std.proofs.Common.{◌≡◌, ◌==◌, ℕ, Bool, true, false, if◌then◌else◌, List, [], ◌∷◌, ◌++◌, Some, None, refl, sym, ap, append_assoc, slice_get, rules, arith}
 use Rattle.std.proofs.lemmas.List.{append-nil}
 use Rattle.terms.specs.declared.key.TheConstants.{MAX_COMPONENTS}
 use Rattle.syntax.specs.declared.token.Word.{Word}
@@ -13,7 +13,7 @@ use Rattle.syntax.specs.Limits.{name_limits, one_more}
 use Rattle.syntax.specs.Expected.{Expected, exactly, keyword, Move, taken, left_out, wrong, passed, within, sign_number, word_number, is_taken, look, look_if, look_if_word, look_name}
 use Rattle.syntax.specs.Expected.{step_name_limits, parameters, behind_parameter, behind_variable}
 use Rattle.syntax.proofs.Signs.{same_number}
-use Rattle.syntax.proofs.Lost.{IsLost}
+use Rattle.syntax.proofs.Tellings.{IsLost}
 use Rattle.syntax.proofs.Fillings.{Filling, filling_pieces, Fillings, fillings_pieces, behind_parameters}
 use Rattle.syntax.proofs.Behind.{class, is_expression, follows}
 
@@ -47,14 +47,10 @@ abbrev words : List Word
 words = kept.Env ∷ kept.Step ∷ kept.Var ∷ kept.Read ∷ kept.Write ∷ kept.Get ∷ kept.Put ∷ kept.If ∷ kept.Else ∷ kept.For ∷ kept.In ∷ []
 
 word_found : (it : Word) → slice_get words (word_number it) ≡ Some it
-word_found kept.Env = refl
-word_found _ = refl
+word_found it = grind arith
 
 pub same_word : (it other : Word) → (word_number it == word_number other) ≡ true → word other ≡ word it
-same_word it other same =
-    let number : word_number it ≡ word_number other = search (rules, same) in
-    let found : Some it ≡ Some other = sym (word_found it) ∙ ap (slice_get words) number ∙ word_found other in
-    cc
+same_word it other same = grind arith
 
 abbrev pub turn_sign : (it other : Symbol) (place : Position) (same : Bool) → (sign_number it == sign_number other) ≡ same → Turn (exactly it) (symbol other, place) (is_taken same)
 turn_sign it other place true same = takes [] [] (λ later. tt) refl refl (λ later. (plain (symbol it), same_sign it other same, refl))

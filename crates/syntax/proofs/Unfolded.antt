@@ -1,25 +1,60 @@
 -- Each filling is made by what its first token does, from one filling of what may come after it, with the same limits.
-use Rattle.std.proofs.Common.{◌≡◌, ℕ, suc, List, [], ◌∷◌, ◌++◌, Option, Some, None, refl, sym, append_assoc}
-use Rattle.std.specs.Prelude.{⊤}
-use Rattle.std.proofs.lemmas.List.{append-nil}
+use Rattle.std.proofs.Common.{◌≡◌, ℕ, suc, ◌-◌, arith, List, [], ◌∷◌, ◌++◌, refl, sym, ap, Option, Some, None, append_assoc, false}
 use Rattle.std.specs.List.{flat_map}
+use Rattle.std.proofs.lemmas.List.{append_assoc, append-nil}
 use Rattle.terms.specs.declared.key.TheConstants.{MAX_COMPONENTS}
 use Rattle.steptree.specs.declared.slot.TheConstants.{MOST_NAMES}
 use Rattle.steptree.specs.declared.sheet.TheConstants.{MOST_COLLECTIONS}
 use Rattle.syntax.specs.declared.token.Word.TheVariants as kept
 use Rattle.syntax.specs.declared.token.Symbol.TheVariants as sign
+use Rattle.syntax.specs.Grammar.{Position, Named, no_sums, sums, own, assigned, if_alone, if_else, for, no_more, and_then, put_item, put_tag, item_declared, tag_declared, prescribes, reads, puts_item}
+use Rattle.syntax.specs.Grammar.{puts_tag, environment_puts_item, environment_puts_tag, environment_gets, Names, Declaration, Relation, StepText}
+use Rattle.syntax.specs.Limits.{one_more, name_limits, names_behind, all_names, step_names, statements_limits, get_limits, put_limits, steps_limits}
 use Rattle.syntax.specs.Tokens.{Spot}
-use Rattle.syntax.specs.Grammar.{Position, no_sums, sums, own, assigned, if_alone, if_else, for, no_more, and_then, put_item, put_tag, item_declared, tag_declared, prescribes, reads, puts_item, puts_tag, environment_puts_item, environment_puts_tag, environment_gets, Named, Names, Declaration, Relation, StepText}
 use Rattle.syntax.specs.Spelled.{Piece, plain, at, declaration_pieces, relation_pieces, step_pieces}
-use Rattle.syntax.specs.Limits.{one_more, name_limits, all_names, names_behind, step_names, statements_limits, get_limits, put_limits, steps_limits}
-use Rattle.syntax.specs.Expected.{Expected, exactly, keyword, a_name, whole, operand, behind_operand, components, more_components, statements, nested_brace, or_else, put_target, declarations, front, front_named, front_closed}
-use Rattle.syntax.specs.Expected.{component_name, behind_component, relations, reader, related, steps, step_name, parameters, parameter, behind_parameter, variables, step_variable, behind_variable}
-use Rattle.syntax.specs.Expected.{Kind, item, tag, reading, writing, Move, step_rest}
-use Rattle.syntax.proofs.Covers.{Covers, covers_same, covers_then, covers_on, covers_swap, covers_middle}
-use Rattle.syntax.proofs.Names.{each_append, each_covers, both_covers}
-use Rattle.syntax.proofs.Fillings.{◌▸◌, counted, parameter_limits, variable_limits, Filling, filling_pieces, filling_limits, Fillings, fillings_limits, declares, relates, with_components, closes}
+use Rattle.syntax.specs.Expected.{Expected, exactly, keyword, a_name, whole, operand, behind_operand, components, more_components, statements, nested_brace, or_else, put_target, declarations, front}
+use Rattle.syntax.specs.Expected.{front_named, front_closed, component_name, behind_component, relations, reader, related, steps, step_name, parameters, parameter, behind_parameter, variables}
+use Rattle.syntax.specs.Expected.{step_variable, behind_variable, Kind, item, tag, reading, writing, Move, step_rest}
+use Rattle.syntax.proofs.Judged.{Covers, covers_same, covers_then, covers_on, covers_swap, covers_middle}
+use Rattle.syntax.proofs.Fillings.{each_limits, counted, ◌▸◌, parameter_limits, variable_limits, Filling, filling_pieces, filling_limits, Fillings, fillings_limits, declares, relates, with_components}
+use Rattle.syntax.proofs.Fillings.{closes}
+use Rattle.syntax.proofs.Behind.{is_expression}
 use Rattle.syntax.proofs.Turns.{Turn, takes}
 use Rattle.syntax.proofs.AllTurns.{turn}
+
+-- ---- limits at names
+
+pub each_append : (limits : ℕ → Position → List Position) (before : ℕ) (one two : List Named) → each_limits limits before (one ++ two) ≡ each_limits limits before one ++ each_limits limits (counted before one) two
+each_append limits before [] two = refl
+each_append limits before (it ∷ one) two = grind (arith, append_assoc, each_append limits (suc before) one two)
+
+-- one more name, with `before` names before it
+behind_step : (most before : ℕ) (it : Named) (names : List Named) → names_behind (most - before) (it ∷ names) ≡ one_more most before it.1 ++ names_behind (most - suc before) names
+behind_step most before it names = grind arith
+
+no_names_behind : (most : ℕ) → names_behind most [] ≡ []
+no_names_behind most = grind arith
+
+-- the limits of the names, and then the limit on their number
+pub each_covers : (most before : ℕ) (names : List Named) → Covers (each_limits (one_more most) before names) (flat_map name_limits names ++ names_behind (most - before) names)
+each_covers most before [] = covers_same (sym (no_names_behind (most - before)))
+each_covers most before (it ∷ names) =
+    covers_then (covers_on (covers_same refl) (each_covers most (suc before) names))
+    (covers_then (covers_middle (name_limits it) (one_more most before it.1) (flat_map name_limits names) (names_behind (most - suc before) names))
+    (covers_same (ap (λ (list : List Position). (name_limits it ++ flat_map name_limits names) ++ list) (sym (behind_step most before it names)))))
+
+-- two limits on their number
+pub both_covers : (one two before : ℕ) (names : List Named)
+    → Covers (each_limits (λ count place. one_more one count place ++ one_more two count place) before names) (each_limits (one_more two) before names ++ names_behind (one - before) names)
+both_covers one two before [] = covers_same (sym (no_names_behind (one - before)))
+both_covers one two before (it ∷ names) =
+    let first = one_more one before it.1 in
+    let second = one_more two before it.1 in
+    covers_then (covers_on (covers_then (covers_on (covers_same refl) (covers_swap first second)) (covers_same (sym (append_assoc (name_limits it) second first)))) (both_covers one two (suc before) names))
+    (covers_then (covers_middle (name_limits it ++ second) first (each_limits (one_more two) (suc before) names) (names_behind (one - suc before) names))
+    (covers_same (ap (λ (list : List Position). ((name_limits it ++ second) ++ each_limits (one_more two) (suc before) names) ++ list) (sym (behind_step one before it names)))))
+
+-- ---- what a first token makes
 
 -- a token makes this filling of one filling of what may come after it, whose limits with its own are those of this filling
 abbrev pub By : {first : Expected} {spot : Spot} {move : Move} → Turn first spot move → Filling first → Type 0
@@ -143,73 +178,67 @@ unfold_more_parameters before (it ∷ names) more = λ place. (record { paramete
 
 -- ---- all fillings but those of expressions
 
-abbrev pub Unfolded : (first : Expected) → Filling first → Type 0
-Unfolded (whole comparing) filling = ⊤
-Unfolded (operand state) filling = ⊤
-Unfolded (behind_operand state prod) filling = ⊤
-Unfolded first filling = Unfolds first filling (filling_pieces first filling)
-
-pub unfolded : (first : Expected) (filling : Filling first) → Unfolded first filling
-unfolded (exactly sign.OpenBracket) filling = λ place. (tt, refl, covers_same refl)
-unfolded (exactly _) filling = λ place. (tt, refl, covers_same refl)
-unfolded (keyword kept.Env) filling = λ place. (tt, refl, covers_same refl)
-unfolded (keyword _) filling = λ place. (tt, refl, covers_same refl)
-unfolded a_name it = (tt, refl, covers_same (simp append-nil))
-unfolded (whole comparing) filling = tt
-unfolded (operand state) filling = tt
-unfolded (behind_operand state prod) filling = tt
-unfolded components no_sums = (refl, refl)
-unfolded components (sums sum more) = λ place. (sum ▸ more ▸ tt, refl, covers_same (simp append-nil))
-unfolded more_components [] = (refl, refl)
-unfolded more_components (sum ∷ more) = λ place. (sum ▸ more ▸ tt, refl, covers_same (simp append-nil))
-unfolded (statements part around) no_more = (refl, refl)
-unfolded (statements reading around) (and_then (own get) more) =
+pub unfolded : (first : Expected) → is_expression first ≡ false → (filling : Filling first) → Unfolds first filling (filling_pieces first filling)
+unfolded (exactly sign.OpenBracket) is filling = λ place. (tt, refl, covers_same refl)
+unfolded (exactly _) is filling = λ place. (tt, refl, covers_same refl)
+unfolded (keyword kept.Env) is filling = λ place. (tt, refl, covers_same refl)
+unfolded (keyword _) is filling = λ place. (tt, refl, covers_same refl)
+unfolded a_name is it = (tt, refl, covers_same (simp append-nil))
+unfolded (whole comparing) is filling = absurd (cc)
+unfolded (operand state) is filling = absurd (cc)
+unfolded (behind_operand state prod) is filling = absurd (cc)
+unfolded components is no_sums = (refl, refl)
+unfolded components is (sums sum more) = λ place. (sum ▸ more ▸ tt, refl, covers_same (simp append-nil))
+unfolded more_components is [] = (refl, refl)
+unfolded more_components is (sum ∷ more) = λ place. (sum ▸ more ▸ tt, refl, covers_same (simp append-nil))
+unfolded (statements part around) is no_more = (refl, refl)
+unfolded (statements reading around) is (and_then (own get) more) =
     λ place. (get.variable ▸ tt ▸ tt ▸ get.item.collection ▸ get.item.components ▸ tt ▸ tt ▸ more ▸ tt, refl, covers_same (simp (append_assoc, append-nil)))
-unfolded (statements writing around) (and_then (own (put_item key value)) more) = λ place. (put_item key value ▸ more ▸ tt, refl, covers_same (simp append-nil))
-unfolded (statements writing around) (and_then (own (put_tag key)) more) = λ place. (put_tag key ▸ more ▸ tt, refl, covers_same (simp append-nil))
-unfolded (statements part around) (and_then (assigned it expr) more) = (tt ▸ expr ▸ tt ▸ more ▸ tt, refl, covers_same (simp (append_assoc, append-nil)))
-unfolded (statements reading around) (and_then (if_alone condition brace block) more) =
+unfolded (statements writing around) is (and_then (own (put_item key value)) more) = λ place. (put_item key value ▸ more ▸ tt, refl, covers_same (simp append-nil))
+unfolded (statements writing around) is (and_then (own (put_tag key)) more) = λ place. (put_tag key ▸ more ▸ tt, refl, covers_same (simp append-nil))
+unfolded (statements part around) is (and_then (assigned it expr) more) = (tt ▸ expr ▸ tt ▸ more ▸ tt, refl, covers_same (simp (append_assoc, append-nil)))
+unfolded (statements reading around) is (and_then (if_alone condition brace block) more) =
     λ place. (tt ▸ condition ▸ tt ▸ brace ▸ block ▸ tt ▸ None ▸ more ▸ tt, refl, covers_same (simp (append_assoc, append-nil)))
-unfolded (statements part around) (and_then (if_alone condition brace block) more) =
+unfolded (statements part around) is (and_then (if_alone condition brace block) more) =
     λ place. (tt ▸ condition ▸ tt ▸ brace ▸ block ▸ tt ▸ None ▸ more ▸ tt, refl, covers_same (simp (append_assoc, append-nil)))
-unfolded (statements reading around) (and_then (if_else condition brace block other second) more) =
+unfolded (statements reading around) is (and_then (if_else condition brace block other second) more) =
     λ place. (tt ▸ condition ▸ tt ▸ brace ▸ block ▸ tt ▸ Some (other, second) ▸ more ▸ tt, refl, covers_same (simp (append_assoc, append-nil)))
-unfolded (statements part around) (and_then (if_else condition brace block other second) more) =
+unfolded (statements part around) is (and_then (if_else condition brace block other second) more) =
     λ place. (tt ▸ condition ▸ tt ▸ brace ▸ block ▸ tt ▸ Some (other, second) ▸ more ▸ tt, refl, covers_same (simp (append_assoc, append-nil)))
-unfolded (statements reading around) (and_then (for it from to brace block) more) =
+unfolded (statements reading around) is (and_then (for it from to brace block) more) =
     λ place. (it ▸ tt ▸ from ▸ tt ▸ to ▸ brace ▸ block ▸ tt ▸ more ▸ tt, refl, covers_same (simp (append_assoc, append-nil)))
-unfolded (statements part around) (and_then (for it from to brace block) more) =
+unfolded (statements part around) is (and_then (for it from to brace block) more) =
     λ place. (it ▸ tt ▸ from ▸ tt ▸ to ▸ brace ▸ block ▸ tt ▸ more ▸ tt, refl, covers_same (simp (append_assoc, append-nil)))
-unfolded (nested_brace around) place = (tt, refl, covers_same (append-nil _))
-unfolded (or_else part around) None = (refl, refl)
-unfolded (or_else part around) (Some second) = λ place. (second.0 ▸ second.1 ▸ tt ▸ tt, refl, covers_same (simp (append_assoc, append-nil)))
-unfolded put_target (put_item key value) = λ place. (key.collection ▸ key.components ▸ tt ▸ tt ▸ value ▸ tt ▸ tt, refl, covers_same (simp (append_assoc, append-nil)))
-unfolded put_target (put_tag key) = λ place. (key.collection ▸ key.components ▸ tt ▸ tt ▸ tt, refl, covers_same (simp (append_assoc, append-nil)))
-unfolded (declarations items tags) graph = unfold_text items tags graph.declarations graph.relations graph.steps
-unfolded (front kind items tags) it = (it.rest ▸ tt, refl, covers_same (simp (append_assoc, append-nil)))
-unfolded (front_named item items tags named_at) (with_components names graph) = λ place. (names ▸ tt ▸ tt ▸ graph ▸ tt, refl, covers_same (simp append-nil))
-unfolded (front_named kind items tags named_at) (with_components names graph) = λ place. (names ▸ tt ▸ tt ▸ graph ▸ tt, refl, covers_same (simp append-nil))
-unfolded (front_named item items tags named_at) (closes it) = λ place. (it ▸ tt, refl, covers_same (append-nil _))
-unfolded (front_named kind items tags named_at) (closes it) = λ place. (it ▸ tt, refl, covers_same (append-nil _))
-unfolded (front_closed item items tags named_at) (declares graph) = λ place. (graph ▸ tt, refl, covers_same (simp append-nil))
-unfolded (front_closed kind items tags named_at) (declares graph) = λ place. (graph ▸ tt, refl, covers_same (simp append-nil))
-unfolded (front_closed item items tags named_at) (relates target them) = λ place. (target ▸ tt ▸ them ▸ tt, refl, covers_same (simp append-nil))
-unfolded (front_closed tag items tags named_at) (relates step them) = λ place. (tt ▸ step ▸ tt ▸ tt ▸ them ▸ tt, refl, covers_same (simp append-nil))
-unfolded (component_name before) names = (names.more ▸ tt, refl, covers_same (simp (append_assoc, append-nil)))
-unfolded (behind_component before) [] = (refl, refl)
-unfolded (behind_component before) (it ∷ names) = λ place. (record { first = it; more = names } ▸ tt, refl, covers_same (append-nil _))
-unfolded relations them = unfold_relations them.relations them.steps
-unfolded reader None = λ place. (tt, refl, covers_same refl)
-unfolded reader (Some step) = λ place. (step ▸ tt ▸ tt, refl, covers_same (append-nil _))
-unfolded related it = unfold_related it.first it.rest
-unfolded (steps before) [] = (refl, refl)
-unfolded (steps before) (step ∷ more) = λ place. (step_fillings before step more, refl, step_covers before step more)
-unfolded (step_name before) it = (tt, refl, covers_same (append-nil _))
-unfolded parameters names = unfold_parameters names.parameters names.variables
-unfolded (parameter before) names = (record { parameters = names.parameters.more; variables = names.variables } ▸ tt, refl, covers_same (simp (append_assoc, append-nil)))
-unfolded (behind_parameter before) names = unfold_more_parameters before names.parameters names.variables
-unfolded (variables before) None = (refl, refl)
-unfolded (variables before) (Some names) = λ place. (names ▸ tt, refl, covers_same (append-nil _))
-unfolded (step_variable before) names = (names.more ▸ tt, refl, covers_same (simp (append_assoc, append-nil)))
-unfolded (behind_variable before) [] = λ place. (tt, refl, covers_same refl)
-unfolded (behind_variable before) (it ∷ names) = λ place. (record { first = it; more = names } ▸ tt, refl, covers_same (append-nil _))
+unfolded (nested_brace around) is place = (tt, refl, covers_same (append-nil _))
+unfolded (or_else part around) is None = (refl, refl)
+unfolded (or_else part around) is (Some second) = λ place. (second.0 ▸ second.1 ▸ tt ▸ tt, refl, covers_same (simp (append_assoc, append-nil)))
+unfolded put_target is (put_item key value) = λ place. (key.collection ▸ key.components ▸ tt ▸ tt ▸ value ▸ tt ▸ tt, refl, covers_same (simp (append_assoc, append-nil)))
+unfolded put_target is (put_tag key) = λ place. (key.collection ▸ key.components ▸ tt ▸ tt ▸ tt, refl, covers_same (simp (append_assoc, append-nil)))
+unfolded (declarations items tags) is graph = unfold_text items tags graph.declarations graph.relations graph.steps
+unfolded (front kind items tags) is it = (it.rest ▸ tt, refl, covers_same (simp (append_assoc, append-nil)))
+unfolded (front_named item items tags named_at) is (closes it) = λ place. (it ▸ tt, refl, covers_same (append-nil _))
+unfolded (front_named kind items tags named_at) is (closes it) = λ place. (it ▸ tt, refl, covers_same (append-nil _))
+unfolded (front_named item items tags named_at) is (with_components names graph) = λ place. (names ▸ tt ▸ tt ▸ graph ▸ tt, refl, covers_same (simp append-nil))
+unfolded (front_named kind items tags named_at) is (with_components names graph) = λ place. (names ▸ tt ▸ tt ▸ graph ▸ tt, refl, covers_same (simp append-nil))
+unfolded (front_closed item items tags named_at) is (relates target them) = λ place. (target ▸ tt ▸ them ▸ tt, refl, covers_same (simp append-nil))
+unfolded (front_closed tag items tags named_at) is (relates step them) = λ place. (tt ▸ step ▸ tt ▸ tt ▸ them ▸ tt, refl, covers_same (simp append-nil))
+unfolded (front_closed item items tags named_at) is (declares graph) = λ place. (graph ▸ tt, refl, covers_same (simp append-nil))
+unfolded (front_closed kind items tags named_at) is (declares graph) = λ place. (graph ▸ tt, refl, covers_same (simp append-nil))
+unfolded (component_name before) is names = (names.more ▸ tt, refl, covers_same (simp (append_assoc, append-nil)))
+unfolded (behind_component before) is [] = (refl, refl)
+unfolded (behind_component before) is (it ∷ names) = λ place. (record { first = it; more = names } ▸ tt, refl, covers_same (append-nil _))
+unfolded relations is them = unfold_relations them.relations them.steps
+unfolded reader is None = λ place. (tt, refl, covers_same refl)
+unfolded reader is (Some step) = λ place. (step ▸ tt ▸ tt, refl, covers_same (append-nil _))
+unfolded related is it = unfold_related it.first it.rest
+unfolded (steps before) is [] = (refl, refl)
+unfolded (steps before) is (step ∷ more) = λ place. (step_fillings before step more, refl, step_covers before step more)
+unfolded (step_name before) is it = (tt, refl, covers_same (append-nil _))
+unfolded parameters is names = unfold_parameters names.parameters names.variables
+unfolded (parameter before) is names = (record { parameters = names.parameters.more; variables = names.variables } ▸ tt, refl, covers_same (simp (append_assoc, append-nil)))
+unfolded (behind_parameter before) is names = unfold_more_parameters before names.parameters names.variables
+unfolded (variables before) is None = (refl, refl)
+unfolded (variables before) is (Some names) = λ place. (names ▸ tt, refl, covers_same (append-nil _))
+unfolded (step_variable before) is names = (names.more ▸ tt, refl, covers_same (simp (append_assoc, append-nil)))
+unfolded (behind_variable before) is [] = λ place. (tt, refl, covers_same refl)
+unfolded (behind_variable before) is (it ∷ names) = λ place. (record { first = it; more = names } ▸ tt, refl, covers_same (append-nil _))

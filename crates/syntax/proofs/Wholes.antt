@@ -1,37 +1,24 @@
 -- On the way through an expression, and at its end.
 use Rattle.std.proofs.Common.{◌≡◌, ◌<◌, ◌≤◌, List, [], ◌∷◌, ◌++◌, length, refl, sym, ap, subst, ◌∙◌, arith, Option, Some, None, append_assoc, Bool, true, false}
-use Rattle.std.proofs.lemmas.List.{append-nil}
 use Rattle.steptree.specs.Tree.{NamedExpression}
 use Rattle.syntax.specs.declared.operand.Operand.{Operand}
 use Rattle.syntax.specs.declared.partial.Partial.{Partial}
 use Rattle.syntax.specs.declared.stop.Stop.{Stop}
-use Rattle.syntax.specs.declared.stop.Stop.TheVariants as stop
 use Rattle.syntax.specs.Tokens.{Spot}
 use Rattle.syntax.specs.Grammar.{Position, Expr, Sum, sum_alone, Prod}
 use Rattle.syntax.specs.Limits.{expr_limits, expr_depth, depth_limits, expr_within, prod_within}
 use Rattle.syntax.specs.Spelled.{expr_pieces}
-use Rattle.syntax.specs.Expected.{Comparing, never, possible, behind_left, Expression, Expected, whole, operand, behind_operand, Move, finished, level_expr, begun, run, look, sum_of, compared_of}
+use Rattle.syntax.specs.Expected.{Comparing, never, possible, Expression, Expected, whole, operand, behind_operand, Move, finished, level_expr, begun, run, look, sum_of, compared_of}
 use Rattle.syntax.specs.Front.{front_of}
 use Rattle.syntax.specs.Parsed.{Spells, Tells, Stops}
-use Rattle.syntax.specs.Partial.{HoldsProd, IsPartial, HoldsExpr, IsBehind, IsWhole, IsFresh, comparison_may_come, outermost, Follows, Onward, read_so_far, state_limits}
+use Rattle.syntax.specs.Partial.{HoldsProd, IsPartial, HoldsExpr, IsBehind, IsWhole, IsFresh, comparison_may_come, outermost, Follows, read_so_far, state_limits}
 use Rattle.syntax.specs.Whole.{From, Reached, IsExpression, IsWithinLimits, TellsLimit}
-use Rattle.syntax.proofs.Moves.{skipped, limited}
-use Rattle.syntax.proofs.Onward.{compared_pieces, added_pieces, compared_within, added_within}
-
-pub from_on : (comparing : Comparing) (from to : Expected) (start now after : List Spot) → From comparing from start now → Onward from to now after → From comparing to start after
-from_on comparing from to start now after way step = record {
-  goes = λ behind. way.goes behind ∙ step.goes behind;
-  spells = step.spells start way.spells;
-  clear = step.clear way.clear;
-  alone = λ e. step.alone (way.alone e);
-}
+use Rattle.syntax.proofs.Moves.{skipped}
 
 -- from any place on the way to the next one
 reached_on : (comparing : Comparing) (from : Expected) (start now after : List Spot) (product : Option Operand) (new : Partial) → From comparing from start now → length now ≤ length start → Follows from now after product new
     → length after < length now → Reached comparing start after product new
-reached_on comparing from start now after None new way short next fewer = (next.0, next.1, from_on comparing from (operand next.0) start now after way next.2, omega (arith, short, fewer))
-reached_on comparing from start now after (Some product) new way short next fewer =
-    (next.0, next.1, next.2, next.3, next.4, from_on comparing from (behind_operand next.0 next.1) start now after way next.5, omega (arith, short, fewer))
+reached_on comparing from start now after product new way short next fewer = grind arith
 
 pub begun_on : (comparing : Comparing) (start now after : List Spot) (product : Option Operand) (old new : Partial) → Reached comparing start now None old
     → ((state : Expression) → IsPartial state old → Follows (operand state) now after product new) → length after < length now → Reached comparing start after product new
@@ -47,20 +34,13 @@ product_on comparing start now after product more old new reached follows fewer 
 -- ---- the end
 
 whole_pieces : (state : Expression) (prod : Prod) → state.outer ≡ [] → IsBehind state → read_so_far (behind_operand state prod) ≡ expr_pieces (level_expr state.level prod)
-whole_pieces state prod none nothing =
-    let no_product = nothing.0 in
-    let no_minus = nothing.1 in
-    simp (none, no_product, no_minus, compared_pieces, added_pieces, append_assoc, append-nil)
+whole_pieces state prod none nothing = grind (arith, append_assoc)
 
 whole_clear : (state : Expression) (prod : Prod) → state.outer ≡ [] → IsBehind state → state_limits state ++ prod_within (length state.outer) prod ≡ [] → expr_within 0 (level_expr state.level prod) ≡ []
-whole_clear state prod none nothing clear =
-    let no_product = nothing.0 in
-    simp (compared_within, added_within, append_assoc, append-nil) (simp (none, no_product, append_assoc, append-nil) at clear)
+whole_clear state prod none nothing clear = grind (arith, append_assoc)
 
 alone_sum : (comparing : Comparing) (sum : Sum) → comparing ≡ never → compared_of comparing sum ≡ sum_alone sum
-alone_sum never sum e = refl
-alone_sum possible sum e = cc
-alone_sum (behind_left left how) sum e = cc
+alone_sum comparing sum e = grind arith
 
 no_limits : (expr : Expr) → ((place : Position) → depth_limits (expr_depth expr) place ≡ []) → expr_within 0 expr ≡ [] → expr_limits expr ≡ []
 no_limits expr shallow clear = rw (shallow, clear) refl
@@ -87,9 +67,7 @@ expression_read comparing start now after product expression old new tree reache
 
 pub limit_told : (cause : Stop) (move : Move) (first : Expected) (behind : List Expected) (spots : List Spot) → TellsLimit cause move → look first (front_of spots).0 (front_of spots).1 ≡ move
     → Tells cause spots (run (first ∷ behind) spots)
-limit_told (stop.TooLarge place) move first behind spots told looks = limited first behind spots place (looks ∙ told)
-limit_told stop.Syntax move first behind spots told looks = absurd told
-limit_told stop.NoMemory move first behind spots told looks = absurd told
+limit_told cause move first behind spots told looks = grind arith
 
 pub expression_stops : (comparing : Comparing) (start now after : List Spot) (product expression : Operand) (old new : Partial) (cause : Stop) → Reached comparing start now (Some product) old
     → ((state : Expression) (prod : Prod) → IsPartial state old → IsBehind state → HoldsProd prod product → IsWhole state prod expression new now after)
@@ -103,8 +81,7 @@ expression_stops comparing start now after product expression old new cause reac
 
 -- the first token begins an operand
 pub begins : (comparing : Comparing) (spots : List Spot) (behind : List Expected) → run (whole comparing ∷ behind) spots ≡ run (operand (begun comparing (front_of spots).1) ∷ behind) spots
-begins comparing [] behind = refl
-begins comparing (spot ∷ spots) behind = refl
+begins comparing spots behind = grind arith
 
 pub some_comparing : (may : Bool) → (comparing : Comparing) × (may ≡ comparison_may_come comparing) × IsFresh comparing
 some_comparing true = (possible, refl, tt)

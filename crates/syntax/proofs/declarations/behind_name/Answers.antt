@@ -4,7 +4,7 @@ use Rattle.syntax.specs.Tokens.{symbol}
 use Rattle.syntax.specs.Expected.{exactly, front_closed, run}
 use Rattle.syntax.specs.Front.{front_of}
 use Rattle.syntax.specs.Parsed.{left, Tells}
-use Rattle.syntax.proofs.DeclarationParts.{bracket_due}
+use Rattle.syntax.proofs.GraphParts.{bracket_due}
 use Rattle.syntax.proofs.Stopping.{passed_on}
 use Rattle.syntax.proofs.declarations.behind_name.Goals.{in_default-via-in-Symbol+in_default, in_default-via-in_default}
 use Rattle.syntax.proofs.declarations.behind_name.Goals as goal

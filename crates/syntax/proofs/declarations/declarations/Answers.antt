@@ -3,7 +3,7 @@ use Rattle.syntax.specs.declared.tree.Declaration.TheVariants as declares
 use Rattle.syntax.specs.Expected.{relations}
 use Rattle.syntax.specs.Parsed.{left}
 use Rattle.syntax.specs.Declarations.{IsFrontOrNone, ArePreamble}
-use Rattle.syntax.proofs.PreambleParts.{one_declared, declared_alone, preamble_on, one_related, item_room, tag_room}
+use Rattle.syntax.proofs.GraphParts.{one_declared, declared_alone, preamble_on, one_related, item_room, tag_room}
 use Rattle.syntax.proofs.declarations.declarations.Goals as goal
 
 pub loop-relations-preserved-in-Some-Item : goal.loop-relations-preserved-in-Some-Item

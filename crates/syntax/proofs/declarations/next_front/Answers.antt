@@ -7,8 +7,8 @@ use Rattle.syntax.specs.Expected.{declarations, front, item, tag, look_declarati
 use Rattle.syntax.specs.Parsed.{left}
 use Rattle.syntax.proofs.Moves.{taken_one}
 use Rattle.syntax.proofs.Forward.{known}
-use Rattle.syntax.proofs.NameParts.{full_names}
-use Rattle.syntax.proofs.DeclarationParts.{front_begun}
+use Rattle.syntax.proofs.StepParts.{full_names}
+use Rattle.syntax.proofs.GraphParts.{front_begun}
 use Rattle.syntax.proofs.declarations.next_front.Goals as goal
 
 pub returns-in_ok-front-in-Symbol-OpenBracket-clause-reads : goal.returns-in_ok-front-in-Symbol-OpenBracket-clause-reads

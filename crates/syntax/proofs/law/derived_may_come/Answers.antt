@@ -8,9 +8,9 @@ use Rattle.syntax.specs.Expected.{whole, possible, key_rest}
 use Rattle.syntax.proofs.Tellings.{as_told, as_the_machine}
 use Rattle.syntax.proofs.Judged.{judged_none}
 use Rattle.syntax.proofs.Behind.{an_end, stands}
-use Rattle.syntax.proofs.Only.{spelled}
+use Rattle.syntax.proofs.Moves.{spelled}
 use Rattle.syntax.proofs.JudgedExpressions.{whole_judged}
-use Rattle.syntax.proofs.JudgedFillings.{key_judged, graph_told}
+use Rattle.syntax.proofs.Walk.{key_judged, graph_told}
 use Rattle.syntax.proofs.Causes.{told}
 use Rattle.syntax.proofs.law.derived_may_come.Goals as goal
 

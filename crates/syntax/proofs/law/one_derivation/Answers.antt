@@ -1,4 +1,4 @@
-use Rattle.syntax.proofs.OnlyOne.{graph_once}
+use Rattle.syntax.proofs.Walk.{graph_once}
 use Rattle.syntax.proofs.law.one_derivation.Goals as goal
 
 pub returns : goal.returns

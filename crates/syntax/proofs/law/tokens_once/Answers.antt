@@ -1,5 +1,4 @@
-use Rattle.syntax.proofs.Example.{example}
-use Rattle.syntax.proofs.Once.{once}
+use Rattle.syntax.proofs.Once.{example, once}
 use Rattle.syntax.proofs.law.tokens_once.Goals as goal
 
 pub returns-clause-once : goal.returns-clause-once

@@ -3,7 +3,7 @@ use Rattle.syntax.specs.Expected.{relations}
 use Rattle.syntax.specs.Parsed.{left}
 use Rattle.syntax.specs.Relations.{IsRelationOrNone}
 use Rattle.syntax.specs.Declarations.{ArePreamble}
-use Rattle.syntax.proofs.PreambleParts.{one_related}
+use Rattle.syntax.proofs.GraphParts.{one_related}
 use Rattle.syntax.proofs.preamble.read_preamble.Goals as goal
 
 pub loop-relations-preserved : goal.loop-relations-preserved

@@ -1,14 +1,13 @@
-use Rattle.std.proofs.Common.{[], ◌∷◌, ◌++◌, refl, sym, ap, ◌∙◌}
+use Rattle.std.proofs.Common.{[], ◌∷◌, refl, sym, ap, ◌∙◌}
 use Rattle.std.proofs.lemmas.List.{append-nil}
 use Rattle.syntax.specs.declared.token.Symbol.TheVariants as sign
 use Rattle.syntax.specs.declared.token.Word.TheVariants as kept
 use Rattle.syntax.specs.Tokens.{symbol, word}
 use Rattle.syntax.specs.Grammar.{reads, environment_gets}
-use Rattle.syntax.specs.Limits.{name_limits}
 use Rattle.syntax.specs.Spelled.{plain}
 use Rattle.syntax.specs.Parsed.{left, named_of}
 use Rattle.syntax.specs.Expected.{exactly, reader, round_rest, look_reader}
-use Rattle.syntax.proofs.Moves.{reads_on, taken_one}
+use Rattle.syntax.proofs.Moves.{◌⨟◌, reads_on, taken_one}
 use Rattle.syntax.proofs.Forward.{known}
 use Rattle.syntax.proofs.relations.behind_item.Goals as goal
 
@@ -22,9 +21,9 @@ returns-in_ok-step-in-Symbol-OpenRound-clause-reads c =
       relation = reads c.args.place (named_of c.args.item) (named_of step.step);
       rest = _;
       spelled = refl;
-      reads = reads_on (reader ∷ exactly sign.Semicolon ∷ []) c.in_ok-sign.ensures.reads (reads_on (exactly sign.Semicolon ∷ []) bracket step.ensures.reads);
+      reads = c.in_ok-sign.ensures.reads ⨟ reads_on (exactly sign.Semicolon ∷ []) bracket step.ensures.reads;
       is = (refl, (refl, refl), (refl, refl));
-      within = ap (λ limits. name_limits (named_of c.args.item) ++ limits) step.ensures.within ∙ append-nil (name_limits (named_of c.args.item));
+      within = rw step.ensures.within (append-nil _);
     }
 
 pub returns-in_ok-sign-in-Word-Env-clause-reads : goal.returns-in_ok-sign-in-Word-Env-clause-reads
@@ -36,7 +35,7 @@ returns-in_ok-sign-in-Word-Env-clause-reads c =
       relation = environment_gets c.args.place (named_of c.args.item);
       rest = _;
       spelled = refl;
-      reads = reads_on (reader ∷ exactly sign.Semicolon ∷ []) c.in_ok-sign.ensures.reads (reads_on (exactly sign.Semicolon ∷ []) environment c.in_ok-sign-in-Word-Env.ensures.reads);
+      reads = c.in_ok-sign.ensures.reads ⨟ (environment ⨟ c.in_ok-sign-in-Word-Env.ensures.reads);
       is = (refl, (refl, refl));
       within = refl;
     }

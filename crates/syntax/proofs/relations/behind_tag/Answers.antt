@@ -1,12 +1,8 @@
-use Rattle.std.proofs.Common.{◌∷◌, ◌++◌, refl, ap, ◌∙◌}
+use Rattle.std.proofs.Common.{refl}
 use Rattle.std.proofs.lemmas.List.{append-nil}
-use Rattle.syntax.specs.declared.token.Symbol.TheVariants as sign
 use Rattle.syntax.specs.Grammar.{prescribes}
-use Rattle.syntax.specs.Limits.{name_limits}
 use Rattle.syntax.specs.Parsed.{named_of}
-use Rattle.syntax.specs.Expected.{exactly}
-use Rattle.syntax.specs.Relations.{last_name_rest}
-use Rattle.syntax.proofs.Moves.{reads_on}
+use Rattle.syntax.proofs.Moves.{◌⨟◌}
 use Rattle.syntax.proofs.relations.behind_tag.Goals as goal
 
 pub returns-clause-reads : goal.returns-clause-reads
@@ -16,7 +12,7 @@ returns-clause-reads c =
       relation = prescribes (named_of c.args.tag) (named_of step.step);
       rest = _;
       spelled = refl;
-      reads = reads_on (exactly sign.OpenRound ∷ last_name_rest sign.CloseRound) c.in_ok-sign.ensures.reads (reads_on (last_name_rest sign.CloseRound) c.in_ok-sign-2.ensures.reads step.ensures.reads);
+      reads = c.in_ok-sign.ensures.reads ⨟ (c.in_ok-sign-2.ensures.reads ⨟ step.ensures.reads);
       is = ((refl, refl), (refl, refl));
-      within = ap (λ limits. name_limits (named_of c.args.tag) ++ limits) step.ensures.within ∙ append-nil (name_limits (named_of c.args.tag));
+      within = rw step.ensures.within (append-nil _);
     }

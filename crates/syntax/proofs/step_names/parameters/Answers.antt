@@ -1,5 +1,5 @@
 use Rattle.syntax.specs.Parsed.{left}
-use Rattle.syntax.proofs.ListParts.{parameter_list, parameters_read, parameters_stop}
+use Rattle.syntax.proofs.StepParts.{parameter_list, parameters_read, parameters_stop}
 use Rattle.syntax.proofs.Returned.{as_ok, as_err}
 use Rattle.syntax.proofs.step_names.parameters.Goals as goal
 

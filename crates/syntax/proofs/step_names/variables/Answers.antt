@@ -2,7 +2,7 @@ use Rattle.std.proofs.Common.{◌≡◌, ◌-◌, sym, subst, arith}
 use Rattle.steptree.specs.declared.slot.TheConstants.{MOST_NAMES}
 use Rattle.syntax.specs.Parsed.{left}
 use Rattle.syntax.specs.StepNames.{AreVariables}
-use Rattle.syntax.proofs.ListParts.{variable_list, no_variables_read, variables_read, variables_stop}
+use Rattle.syntax.proofs.StepParts.{variable_list, no_variables_read, variables_read, variables_stop}
 use Rattle.syntax.proofs.Returned.{as_ok, as_err}
 use Rattle.syntax.proofs.step_names.variables.Goals as goal
 
