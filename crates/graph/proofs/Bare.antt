@@ -20,8 +20,8 @@ use Rattle.graph.specs.Tree.{text_of, items_of, tags_of, step_names, is_name, is
 use Rattle.graph.specs.Faults.{fault_if, or_else, has, repeated, declaration_faults, same_relation, relation_fault, relation_faults, components_of, is_other, arity_faults, step_faults, tree_faults}
 use Rattle.graph.proofs.Lists.{any_agree, in_common}
 use Rattle.graph.proofs.PrintedApart.{any_mapped}
-use Rattle.graph.proofs.PrintedDeclared.{tree_declaration}
-use Rattle.graph.proofs.PrintedSets.{tree_relation}
+use Rattle.graph.proofs.PrintedDeclarations.{tree_declaration}
+use Rattle.graph.proofs.PrintedRelations.{tree_relation}
 use Rattle.graph.proofs.PrintedValues.{name_of}
 
 -- ---- at no particular place in memory

@@ -5,7 +5,7 @@ use Rattle.std.specs.Prelude.{⊤}
 use Rattle.std.specs.List.{AllByRecursion, flat_map, list_any, zip}
 use Rattle.steptree.specs.Names.{Text, is_text, place_of}
 use Rattle.graph.specs.Canonical.{marked}
-use Rattle.graph.proofs.PrintedNames.{AreDistinct, distinct_rest, other_text}
+use Rattle.graph.proofs.PrintedTokens.{AreDistinct, distinct_rest, other_text}
 use Rattle.graph.proofs.Texts.{itself, same_both_ways}
 use Rattle.graph.proofs.Lists.{each_weaker, each_of_both}
 

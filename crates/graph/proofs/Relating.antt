@@ -1,19 +1,33 @@
--- Adding one relation.
-use Rattle.std.proofs.Common.{◌≡◌, ℕ, Bool, not, List, [], ◌∷◌, ◌++◌, Some, None, Option, refl, sym, ap, subst, ◌∙◌, is_some, arith}
-use Rattle.std.specs.Prelude.{Result, Ok, Err, OnOk, is_none}
-use Rattle.std.specs.List.{list_any}
-use Rattle.steptree.specs.Names.{Text, place_of}
+-- Adding relations, one after another; where nothing is marked there are none.
+use Rattle.std.proofs.Common.{◌≡◌, ℕ, Bool, not, List, [], ◌∷◌, ◌++◌, Some, None, Option, refl, sym, ap, subst, ◌∙◌, is_some, arith, ◌&&◌, false, ◌<◌, zero, suc, length, get_or, take, drop, ◌+◌}
+use Rattle.std.specs.Prelude.{Result, Ok, Err, OnOk, is_none, Vec, replicate}
+use Rattle.std.specs.List.{list_any, AllByRecursion}
+use Rattle.steptree.specs.Names.{Text, place_of, is_text}
 use Rattle.steptree.specs.declared.step.Name.{Name}
 use Rattle.syntax.specs.declared.tree.Relation.{Relation}
 use Rattle.graph.specs.declared.fault.GraphError.{GraphError}
 use Rattle.graph.specs.declared.fault.PlacedFault.{PlacedFault}
 use Rattle.graph.specs.declared.relations.Relations.{Relations}
-use Rattle.graph.specs.Faults.{At, fault_if, has, same_relation, relation_fault}
+use Rattle.graph.specs.Faults.{At, fault_if, has, same_relation, relation_fault, or_else, again, unknown, missing, prescribed_before, relation_faults}
 use Rattle.graph.specs.Placed.{IsFirst, Reports}
-use Rattle.graph.specs.Marks.{AreRows, mark_between}
-use Rattle.graph.specs.Relations.{AreRelations, Relates}
-use Rattle.graph.specs.Tree.{text_of}
-use Rattle.graph.proofs.Lists.{any_agree}
+use Rattle.graph.specs.Marks.{AreRows, mark_between, mark_at, with_mark, with_mark_between, AreMarks, ArePrescribers, prescriber_at, with_prescriber, bits}
+use Rattle.graph.specs.Relations.{AreRelations, Relates, read_faults, put_faults, environment_faults, prescription_faults, AreNumbers, IsUnmarked}
+use Rattle.graph.specs.Tree.{text_of, prescriber_of, is_read, is_item_put, is_tag_put, is_environment_item_put, is_environment_tag_put, is_environment_get}
+use Rattle.graph.proofs.Lists.{any_agree, opened, past}
+use Rattle.std.proofs.Math.Bool.{and_comm}
+use Rattle.std.specs.declared.alloc.Global.{Global}
+use Rattle.syntax.specs.declared.tree.Relation.TheVariants as related
+use Rattle.terms.specs.declared.name.TagCollection.{TagCollection}
+use Rattle.graph.specs.declared.fault.GraphError.TheVariants.{Redeclared, UnknownName, StepMissing, TwoPrescribers}
+use Rattle.graph.proofs.Faultless.{first_empty, second_empty, first_none, not_so}
+use Rattle.graph.proofs.Marks.{marks_stay, one_marked, rows_stay, two_marked}
+use Rattle.graph.proofs.Prescribers.{prescribers_stay, one_prescribed, both_there}
+use Rattle.graph.proofs.Texts.{same_both_ways}
+use Rattle.std.proofs.Math.Seq.{take-length}
+use Rattle.std.proofs.lemmas.List.{take_more, length-replicate, length-map}
+use Rattle.graph.specs.Numbered.{names_numbered}
+use Rattle.graph.specs.declared.relations.Numbers.{Numbers}
+use Rattle.graph.proofs.FirstFaults.{in_front, empty_in_front}
 
 -- ---- faults
 
@@ -43,3 +57,228 @@ pub marked_before : (is : Text → Text → Relation → Bool) (steps names : Li
     → list_any (same_relation relation) before ≡ mark_between rows sp op
 marked_before is steps names before relation rows step other sp op are same step_is other_is =
     any_agree (same_relation relation) (is step other) before same ∙ are.each step other ∙ (λ i. mark_between rows (sym step_is i) (sym other_is i))
+
+module _ (items tags steps : List Text) (before : List Relation) (old : Relations) (are : AreRelations items tags steps before old) where
+  -- ---- a relation of another kind
+
+  reads_stay : (relation : Relation) → ((step name : Text) → is_read name step relation ≡ false) → AreRows (λ step item. is_read item step) steps items (before ++ relation ∷ []) (bits old.reads)
+  reads_stay relation other = rows_stay (λ step item. is_read item step) steps items before relation (bits old.reads) other are.reads
+
+  item_puts_stay : (relation : Relation) → ((step name : Text) → is_item_put step name relation ≡ false) → AreRows is_item_put steps items (before ++ relation ∷ []) (bits old.item_puts)
+  item_puts_stay relation other = rows_stay is_item_put steps items before relation (bits old.item_puts) other are.item_puts
+
+  tag_puts_stay : (relation : Relation) → ((step name : Text) → is_tag_put step name relation ≡ false) → AreRows is_tag_put steps tags (before ++ relation ∷ []) (bits old.tag_puts)
+  tag_puts_stay relation other = rows_stay is_tag_put steps tags before relation (bits old.tag_puts) other are.tag_puts
+
+  environment_items_stay : (relation : Relation) → ((name : Text) → is_environment_item_put name relation ≡ false) → AreMarks is_environment_item_put items (before ++ relation ∷ []) old.environment_item_puts.items
+  environment_items_stay relation other = marks_stay is_environment_item_put items before relation old.environment_item_puts.items other are.environment_item_puts
+
+  environment_tags_stay : (relation : Relation) → ((name : Text) → is_environment_tag_put name relation ≡ false) → AreMarks is_environment_tag_put tags (before ++ relation ∷ []) old.environment_tag_puts.items
+  environment_tags_stay relation other = marks_stay is_environment_tag_put tags before relation old.environment_tag_puts.items other are.environment_tag_puts
+
+  environment_gets_stay : (relation : Relation) → ((name : Text) → is_environment_get name relation ≡ false) → AreMarks is_environment_get items (before ++ relation ∷ []) old.environment_gets.items
+  environment_gets_stay relation other = marks_stay is_environment_get items before relation old.environment_gets.items other are.environment_gets
+
+  -- what a relation leaves as it was
+  ruleset kept = (prescribers_stay, reads_stay, item_puts_stay, tag_puts_stay, environment_items_stay, environment_tags_stay, environment_gets_stay)
+
+  -- ---- a relation between a step and another name
+
+  module _ (is : Text → Text → Relation → Bool) (names : List Text) (relation : Relation) (rows new : List (List Bool)) (step other : Name) (sp op : Option ℕ) (so_far : AreRows is steps names before rows)
+      (step_is : sp ≡ place_of steps (text_of step)) (other_is : op ≡ place_of names (text_of other)) where
+    -- its faults by the numbers of its names are those by the names, whichever of the two is looked up first
+    faults_told : ((one : Relation) → same_relation relation one ≡ is (text_of step) (text_of other) one) → (p : ℕ) (ones twos : List Text) (a b : Name) (x y : Option ℕ) (e f : GraphError)
+        → x ≡ place_of ones (text_of a) → y ≡ place_of twos (text_of b)
+        → fault_if (mark_between rows sp op) Redeclared p ++ fault_if (is_none x) e a.place ++ fault_if (is_none y) f b.place
+        ≡ again before relation p ++ fault_if (not (has ones a)) e a.place ++ fault_if (not (has twos b)) f b.place
+    faults_told same p ones twos a b x y e f one two =
+        let marked = marked_before is steps names before relation rows (text_of step) (text_of other) sp op so_far same step_is other_is in
+        λ i. fault_if (sym marked i) Redeclared p ++ in_vain x ones a e one i ++ in_vain y twos b f two i
+
+    -- the names are marked if both are there
+    row_marked : ((one two : Text) → is one two relation ≡ is_text (text_of step) one && is_text (text_of other) two) → fault_if (not (has steps step)) StepMissing step.place ≡ []
+        → fault_if (not (has names other)) UnknownName other.place ≡ [] → new ≡ with_mark_between rows sp op → AreRows is steps names (before ++ relation ∷ []) new
+    row_marked kind none nothing marked =
+        let row = is_there (place_of steps (text_of step)) StepMissing step.place none in
+        let place = is_there (place_of names (text_of other)) UnknownName other.place nothing in
+        subst (AreRows is steps names (before ++ relation ∷ [])) (sym (marked ∙ (λ i. with_mark_between rows ((step_is ∙ row.1) i) ((other_is ∙ place.1) i))))
+        (two_marked is steps names before relation rows (text_of step) (text_of other) row.0 place.0 row.1 place.1 kind so_far)
+
+  pub read_relates : (p : ℕ) (a b : Name) (sp op : Option ℕ) (rows : Vec (Vec Bool Global) Global) (result : Result (Unit {0}) PlacedFault)
+      → sp ≡ place_of steps (text_of b) → op ≡ place_of items (text_of a)
+      → Reports (read_faults (bits old.reads) p op a sp b) result
+      → OnOk result (bits rows ≡ with_mark_between (bits old.reads) sp op)
+      → Relates items tags steps before (related.Reads p a b) (record { prescribers = old.prescribers; reads = rows; item_puts = old.item_puts; tag_puts = old.tag_puts; environment_item_puts = old.environment_item_puts; environment_tag_puts = old.environment_tag_puts; environment_gets = old.environment_gets }) result
+  read_relates p a b sp op rows result step_is other_is reports marked =
+      relates items tags steps before (related.Reads p a b) _ _ result (faults_told (λ step item. is_read item step) items (related.Reads p a b) (bits old.reads) (bits rows) b a sp op are.reads step_is other_is (λ one. grind (arith, same_both_ways)) p items steps a b op sp UnknownName StepMissing other_is step_is) reports
+      marked (λ marks none. let own = row_marked (λ step item. is_read item step) items (related.Reads p a b) (bits old.reads) (bits rows) b a sp op are.reads step_is other_is (λ one two. and_comm (is_text (text_of a) two) (is_text (text_of b) one)) (search (first_empty, second_empty, none)) (search (first_empty, second_empty, none)) marks in search (own, kept))
+
+  pub item_put_relates : (p : ℕ) (a b : Name) (sp op : Option ℕ) (rows : Vec (Vec Bool Global) Global) (result : Result (Unit {0}) PlacedFault)
+      → sp ≡ place_of steps (text_of a) → op ≡ place_of items (text_of b)
+      → Reports (put_faults (bits old.item_puts) p sp a op b) result
+      → OnOk result (bits rows ≡ with_mark_between (bits old.item_puts) sp op)
+      → Relates items tags steps before (related.PutsItem p a b) (record { prescribers = old.prescribers; reads = old.reads; item_puts = rows; tag_puts = old.tag_puts; environment_item_puts = old.environment_item_puts; environment_tag_puts = old.environment_tag_puts; environment_gets = old.environment_gets }) result
+  item_put_relates p a b sp op rows result step_is other_is reports marked =
+      relates items tags steps before (related.PutsItem p a b) _ _ result (faults_told is_item_put items (related.PutsItem p a b) (bits old.item_puts) (bits rows) a b sp op are.item_puts step_is other_is (λ one. grind (arith, same_both_ways)) p steps items a b sp op StepMissing UnknownName step_is other_is) reports
+      marked (λ marks none. let own = row_marked is_item_put items (related.PutsItem p a b) (bits old.item_puts) (bits rows) a b sp op are.item_puts step_is other_is (λ one two. refl) (search (first_empty, second_empty, none)) (search (first_empty, second_empty, none)) marks in search (own, kept))
+
+  pub tag_put_relates : (p : ℕ) (a b : Name) (sp op : Option ℕ) (rows : Vec (Vec Bool Global) Global) (result : Result (Unit {0}) PlacedFault)
+      → sp ≡ place_of steps (text_of a) → op ≡ place_of tags (text_of b)
+      → Reports (put_faults (bits old.tag_puts) p sp a op b) result
+      → OnOk result (bits rows ≡ with_mark_between (bits old.tag_puts) sp op)
+      → Relates items tags steps before (related.PutsTag p a b) (record { prescribers = old.prescribers; reads = old.reads; item_puts = old.item_puts; tag_puts = rows; environment_item_puts = old.environment_item_puts; environment_tag_puts = old.environment_tag_puts; environment_gets = old.environment_gets }) result
+  tag_put_relates p a b sp op rows result step_is other_is reports marked =
+      relates items tags steps before (related.PutsTag p a b) _ _ result (faults_told is_tag_put tags (related.PutsTag p a b) (bits old.tag_puts) (bits rows) a b sp op are.tag_puts step_is other_is (λ one. grind (arith, same_both_ways)) p steps tags a b sp op StepMissing UnknownName step_is other_is) reports
+      marked (λ marks none. let own = row_marked is_tag_put tags (related.PutsTag p a b) (bits old.tag_puts) (bits rows) a b sp op are.tag_puts step_is other_is (λ one two. refl) (search (first_empty, second_empty, none)) (search (first_empty, second_empty, none)) marks in search (own, kept))
+
+  -- ---- a relation of the environment
+
+  module _ (is : Text → Relation → Bool) (names : List Text) (relation : Relation) (row new : List Bool) (name : Name) (op : Option ℕ) (so_far : AreMarks is names before row) (name_is : op ≡ place_of names (text_of name)) where
+    fault_told : ((one : Relation) → same_relation relation one ≡ is (text_of name) one) → (p : ℕ)
+        → fault_if (mark_at row op) Redeclared p ++ fault_if (is_none op) UnknownName name.place ≡ again before relation p ++ fault_if (not (has names name)) UnknownName name.place
+    fault_told same p =
+        let marked : list_any (same_relation relation) before ≡ mark_at row op = any_agree (same_relation relation) (is (text_of name)) before same ∙ so_far.each (text_of name) ∙ ap (mark_at row) (sym name_is) in
+        λ i. fault_if (sym marked i) Redeclared p ++ in_vain op names name UnknownName name_is i
+
+    name_marked : ((other : Text) → is other relation ≡ is_text (text_of name) other) → fault_if (not (has names name)) UnknownName name.place ≡ [] → new ≡ with_mark row op → AreMarks is names (before ++ relation ∷ []) new
+    name_marked kind none marked =
+        let place = is_there (place_of names (text_of name)) UnknownName name.place none in
+        subst (AreMarks is names (before ++ relation ∷ [])) (sym (marked ∙ ap (with_mark row) (name_is ∙ place.1))) (one_marked is names before relation row (text_of name) place.0 place.1 kind so_far)
+
+  pub environment_item_put_relates : (p : ℕ) (a : Name) (op : Option ℕ) (row : Vec Bool Global) (result : Result (Unit {0}) PlacedFault)
+      → op ≡ place_of items (text_of a)
+      → Reports (environment_faults old.environment_item_puts.items p op a) result
+      → OnOk result (row.items ≡ with_mark old.environment_item_puts.items op)
+      → Relates items tags steps before (related.EnvironmentPutsItem p a) (record { prescribers = old.prescribers; reads = old.reads; item_puts = old.item_puts; tag_puts = old.tag_puts; environment_item_puts = row; environment_tag_puts = old.environment_tag_puts; environment_gets = old.environment_gets }) result
+  environment_item_put_relates p a op row result other_is reports marked =
+      relates items tags steps before (related.EnvironmentPutsItem p a) _ _ result (fault_told is_environment_item_put items (related.EnvironmentPutsItem p a) old.environment_item_puts.items row.items a op are.environment_item_puts other_is (λ one. grind (arith, same_both_ways)) p) reports
+      marked (λ marks none. let own = name_marked is_environment_item_put items (related.EnvironmentPutsItem p a) old.environment_item_puts.items row.items a op are.environment_item_puts other_is (λ other. refl) (search (second_empty, none)) marks in search (own, kept))
+
+  pub environment_tag_put_relates : (p : ℕ) (a : Name) (op : Option ℕ) (row : Vec Bool Global) (result : Result (Unit {0}) PlacedFault)
+      → op ≡ place_of tags (text_of a)
+      → Reports (environment_faults old.environment_tag_puts.items p op a) result
+      → OnOk result (row.items ≡ with_mark old.environment_tag_puts.items op)
+      → Relates items tags steps before (related.EnvironmentPutsTag p a) (record { prescribers = old.prescribers; reads = old.reads; item_puts = old.item_puts; tag_puts = old.tag_puts; environment_item_puts = old.environment_item_puts; environment_tag_puts = row; environment_gets = old.environment_gets }) result
+  environment_tag_put_relates p a op row result other_is reports marked =
+      relates items tags steps before (related.EnvironmentPutsTag p a) _ _ result (fault_told is_environment_tag_put tags (related.EnvironmentPutsTag p a) old.environment_tag_puts.items row.items a op are.environment_tag_puts other_is (λ one. grind (arith, same_both_ways)) p) reports
+      marked (λ marks none. let own = name_marked is_environment_tag_put tags (related.EnvironmentPutsTag p a) old.environment_tag_puts.items row.items a op are.environment_tag_puts other_is (λ other. refl) (search (second_empty, none)) marks in search (own, kept))
+
+  pub environment_get_relates : (p : ℕ) (a : Name) (op : Option ℕ) (row : Vec Bool Global) (result : Result (Unit {0}) PlacedFault)
+      → op ≡ place_of items (text_of a)
+      → Reports (environment_faults old.environment_gets.items p op a) result
+      → OnOk result (row.items ≡ with_mark old.environment_gets.items op)
+      → Relates items tags steps before (related.EnvironmentGets p a) (record { prescribers = old.prescribers; reads = old.reads; item_puts = old.item_puts; tag_puts = old.tag_puts; environment_item_puts = old.environment_item_puts; environment_tag_puts = old.environment_tag_puts; environment_gets = row }) result
+  environment_get_relates p a op row result other_is reports marked =
+      relates items tags steps before (related.EnvironmentGets p a) _ _ result (fault_told is_environment_get items (related.EnvironmentGets p a) old.environment_gets.items row.items a op are.environment_gets other_is (λ one. grind (arith, same_both_ways)) p) reports
+      marked (λ marks none. let own = name_marked is_environment_get items (related.EnvironmentGets p a) old.environment_gets.items row.items a op are.environment_gets other_is (λ other. refl) (search (second_empty, none)) marks in search (own, kept))
+
+  -- ---- a prescription
+
+  pub prescription_relates : (a b : Name) (tp sp : Option ℕ) (list : Vec (Option TagCollection) Global) (result : Result (Unit {0}) PlacedFault)
+      → tp ≡ place_of tags (text_of a) → sp ≡ place_of steps (text_of b)
+      → Reports (prescription_faults old.prescribers.items tp a sp b) result
+      → OnOk result (list.items ≡ with_prescriber old.prescribers.items sp tp)
+      → Relates items tags steps before (related.Prescribes a b) (record { prescribers = list; reads = old.reads; item_puts = old.item_puts; tag_puts = old.tag_puts; environment_item_puts = old.environment_item_puts; environment_tag_puts = old.environment_tag_puts; environment_gets = old.environment_gets }) result
+  prescription_relates a b tp sp list result tag_is step_is reports marked =
+      relates items tags steps before (related.Prescribes a b) _ _ result faults reports marked (λ marks none. let own = its_own marks none in search (own, kept))
+    where
+      once : is_some (prescriber_at old.prescribers.items sp) ≡ is_some (prescriber_of before (text_of b))
+      once = ap (λ (p : Option ℕ). is_some (prescriber_at old.prescribers.items p)) step_is ∙ both_there tags _ _ (are.prescribers.each (text_of b))
+
+      faults : prescription_faults old.prescribers.items tp a sp b ≡ relation_fault items tags steps before (related.Prescribes a b)
+      faults = λ i. in_vain tp tags a UnknownName tag_is i ++ or_else (in_vain sp steps b StepMissing step_is i) (fault_if (once i) TwoPrescribers b.place)
+
+      its_own : list.items ≡ with_prescriber old.prescribers.items sp tp → relation_fault items tags steps before (related.Prescribes a b) ≡ [] → ArePrescribers tags steps (before ++ related.Prescribes a b ∷ []) list.items
+      its_own marks none =
+          let tag = is_there (place_of tags (text_of a)) UnknownName a.place (first_empty (unknown tags a) _ none) in
+          let alone = first_none (missing steps b) (prescribed_before before b) (second_empty (unknown tags a) _ none) in
+          let step = is_there (place_of steps (text_of b)) StepMissing b.place alone.0 in
+          let free = ap (λ (p : Option ℕ). is_some (prescriber_at old.prescribers.items p)) (sym (step_is ∙ step.1)) ∙ once ∙ not_so _ TwoPrescribers b.place alone.1 in
+          subst (ArePrescribers tags steps (before ++ related.Prescribes a b ∷ [])) (sym (marks ∙ (λ i. with_prescriber old.prescribers.items ((step_is ∙ step.1) i) ((tag_is ∙ tag.1) i))))
+          (one_prescribed tags steps before old.prescribers.items a b tag.0 step.0 tag.1 step.1 free are.prescribers)
+
+same_there : {X : Type 0} (n place : ℕ) (x : X) → get_or (replicate n x) place x ≡ x
+same_there zero place x = refl
+same_there (suc n) zero x = refl
+same_there (suc n) (suc place) x = same_there n place x
+
+no_mark : (n : ℕ) (place : Option ℕ) → false ≡ mark_at (replicate n false) place
+no_mark n None = refl
+no_mark n (Some place) = sym (same_there n place false)
+
+no_mark_between : (n width : ℕ) (row place : Option ℕ) → false ≡ mark_between (replicate n (replicate width false)) row place
+no_mark_between n width None place = refl
+no_mark_between zero width (Some row) place = grind arith
+no_mark_between (suc n) width (Some zero) place = no_mark width place
+no_mark_between (suc n) width (Some (suc row)) place = no_mark_between n width (Some row) place
+
+wide : (n width : ℕ) → AllByRecursion (λ row. length row ≡ width) (replicate n (replicate width false))
+wide zero width = tt
+wide (suc n) width = (length-replicate width false, wide n width)
+
+none_at : (n : ℕ) (place : Option ℕ) → prescriber_at (replicate n None) place ≡ None
+none_at n None = refl
+none_at n (Some place) = same_there n place None
+
+marks : (is : Text → Relation → Bool) (names : List Text) (row : List Bool) → row ≡ replicate (length names) false → AreMarks is names [] row
+marks is names row e = subst (AreMarks is names []) (sym e) (record { long = length-replicate (length names) false; each = λ name. no_mark (length names) (place_of names name) })
+
+rows : (is : Text → Text → Relation → Bool) (steps names : List Text) (them : List (List Bool)) → them ≡ replicate (length steps) (replicate (length names) false) → AreRows is steps names [] them
+rows is steps names them e = subst (AreRows is steps names []) (sym e) (record {
+  long = length-replicate (length steps) (replicate (length names) false);
+  wide = wide (length steps) (length names);
+  each = λ step name. no_mark_between (length steps) (length names) (place_of steps step) (place_of names name);
+})
+
+pub unmarked : (items tags steps : List Text) (them : Relations) → IsUnmarked (length items) (length tags) (length steps) them → AreRelations items tags steps [] them
+unmarked items tags steps them are = record {
+  prescribers = subst (ArePrescribers tags steps []) (sym are.prescribers) (record { long = length-replicate (length steps) None; each = λ step. none_at (length steps) (place_of steps step) });
+  reads = rows (λ step item. is_read item step) steps items (bits them.reads) are.reads;
+  item_puts = rows is_item_put steps items (bits them.item_puts) are.item_puts;
+  tag_puts = rows is_tag_put steps tags (bits them.tag_puts) are.tag_puts;
+  environment_item_puts = marks is_environment_item_put items them.environment_item_puts.items are.environment_item_puts;
+  environment_tag_puts = marks is_environment_tag_put tags them.environment_tag_puts.items are.environment_tag_puts;
+  environment_gets = marks is_environment_get items them.environment_gets.items are.environment_gets;
+}
+
+-- ---- one after another
+
+module _ (items tags steps : List Text) (all : List Relation) where
+  pub record RelatedSoFar (index : ℕ) (them : Relations) : Type 0 where
+    pub are : AreRelations items tags steps (take index all) them
+    pub left : relation_faults items tags steps [] all ≡ relation_faults items tags steps (take index all) (drop index all)
+
+  module _ (index : ℕ) (old : Relations) (this : Relation) (within : index < length all) (is : this ≡ get_or all index this) (so : RelatedSoFar index old) where
+    here : relation_faults items tags steps [] all ≡ relation_fault items tags steps (take index all) this ++ relation_faults items tags steps (take index all ++ this ∷ []) (drop (index + 1) all)
+    here = so.left ∙ ap (relation_faults items tags steps (take index all)) (opened all index this within is)
+
+    taken : take index all ++ this ∷ [] ≡ take (index + 1) all
+    taken = sym (take_more all index this within ∙ ap (λ (r : Relation). take index all ++ r ∷ []) (sym is))
+
+    pub next_related : (new : Relations) → relation_fault items tags steps (take index all) this ≡ [] → AreRelations items tags steps (take index all ++ this ∷ []) new → RelatedSoFar (index + 1) new
+    next_related new none now = record {
+      are = subst (λ (l : List Relation). AreRelations items tags steps l new) taken now;
+      left = here ∙ empty_in_front (relation_fault items tags steps (take index all) this) _ none ∙ ap (λ (l : List Relation). relation_faults items tags steps l (drop (index + 1) all)) taken;
+    }
+
+    pub first_related : (fault : PlacedFault) → IsFirst (relation_fault items tags steps (take index all) this) fault → IsFirst (relation_faults items tags steps [] all) fault
+    first_related fault first = subst (λ (l : List At). IsFirst l fault) (sym here) (in_front (relation_fault items tags steps (take index all) this) _ fault first)
+
+  pub all_related : (index : ℕ) (them : Relations) → index ≡ length all → RelatedSoFar index them → (relation_faults items tags steps [] all ≡ []) × AreRelations items tags steps all them
+  all_related index them end so = (so.left ∙ ap (relation_faults items tags steps (take index all)) (past all index end), subst (λ (l : List Relation). AreRelations items tags steps l them) (ap (λ (n : ℕ). take n all) end ∙ take-length all) so.are)
+
+names_long : {V : Type 0} (numbered : List (Text × V)) → length (names_numbered numbered) ≡ length numbered
+names_long numbered = length-map numbered (λ entry. entry.0)
+
+-- where nothing is marked, no relation has been added yet
+pub begun : (items tags steps : List Text) (all : List Relation) (numbers : Numbers) (i t s : ℕ) (them : Relations) → AreNumbers items tags steps numbers → i ≡ length numbers.items.now → t ≡ length numbers.tags.now
+    → length steps ≡ s → IsUnmarked i t s them → RelatedSoFar items tags steps all 0 them
+begun items tags steps all numbers i t s them are of_items of_tags of_steps none =
+    let is : i ≡ length items = of_items ∙ sym (names_long numbers.items.now) ∙ ap length are.items_are in
+    let ts : t ≡ length tags = of_tags ∙ sym (names_long numbers.tags.now) ∙ ap length are.tags_are in
+    let one = subst (λ (n : ℕ). IsUnmarked n t s them) is none in
+    let two = subst (λ (n : ℕ). IsUnmarked (length items) n s them) ts one in
+    record { are = unmarked items tags steps them (subst (λ (n : ℕ). IsUnmarked (length items) (length tags) n them) (sym of_steps) two); left = refl }
+
+abbrev pub nameless : Name
+nameless = record { text = record { ref_ptr = (0, 0); now = [] }; place = 0 }

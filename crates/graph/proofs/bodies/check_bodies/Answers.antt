@@ -1,8 +1,7 @@
 use Rattle.std.proofs.Common.{◌≡◌, ◌+◌, Some, sym, subst, arith, take, slice_get}
 use Rattle.graph.specs.CheckedSteps.{AreCheckedSteps}
-use Rattle.graph.proofs.BodyFaults.{body_first, next_checked, name_is_new, all_checked}
+use Rattle.graph.proofs.Sheets.{body_first, next_checked, name_is_new, all_checked, its_place}
 use Rattle.graph.proofs.FirstFaults.{fault_passed_on}
-use Rattle.graph.proofs.Sheets.{its_place}
 use Rattle.graph.proofs.bodies.check_bodies.Goals as goal
 use Rattle.graph.proofs.Lists.{there_at}
 

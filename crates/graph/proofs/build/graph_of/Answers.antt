@@ -3,9 +3,9 @@ use Rattle.graph.specs.Canonical.{canonical}
 use Rattle.graph.specs.Graph.{IsGraph}
 use Rattle.graph.specs.Prescribed.{ArePrescriptions, numbers_of}
 use Rattle.graph.specs.Seen.{step_seen}
-use Rattle.graph.proofs.BodyFaults.{names_first}
+use Rattle.graph.proofs.Sheets.{names_first}
 use Rattle.graph.proofs.FirstFaults.{err_passed_on}
-use Rattle.graph.proofs.Made.{all_prescribed, few_steps, so_many_tags, canonical_reads_back, is_graph, is_kept, is_its_graph, with_rows}
+use Rattle.graph.proofs.GraphsOfTrees.{all_prescribed, few_steps, so_many_tags, canonical_reads_back, is_graph, is_kept, is_its_graph, with_rows}
 use Rattle.graph.proofs.build.graph_of.Goals as goal
 
 pub returns-in_err-resolved-clause-fault : goal.returns-in_err-resolved-clause-fault

@@ -1,6 +1,6 @@
 use Rattle.std.proofs.Common.{refl}
 use Rattle.syntax.specs.declared.tree.Declaration.TheVariants as declared
-use Rattle.graph.proofs.Declaring.{item_declared, tag_declared, item_fault, tag_fault}
+use Rattle.graph.proofs.Resolving.{item_declared, tag_declared, item_fault, tag_fault}
 use Rattle.graph.proofs.FirstFaults.{fault_passed_on}
 use Rattle.graph.proofs.Lists.{stands}
 use Rattle.graph.proofs.declarations.declare_all.Goals.{in-Item+in_ok-declare-in-Item, in-Tag+in_ok-declare-in-Tag}

@@ -1,5 +1,4 @@
-use Rattle.graph.proofs.FitKept.{state_keeps, fit_keeps, all_fit_keep}
-use Rattle.graph.proofs.FitsInParts.{in_parts, state_as_set, event_as_set, events_as_set, fit_as_listed}
+use Rattle.graph.proofs.FitKept.{state_keeps, fit_keeps, all_fit_keep, in_parts, state_as_set, event_as_set, events_as_set, fit_as_listed}
 use Rattle.graph.proofs.law.fitting.Goals as goal
 
 pub returns-clause-state_keeps : goal.returns-clause-state_keeps

@@ -3,7 +3,7 @@ use Rattle.syntax.specs.Tokens.{Spot}
 use Rattle.syntax.specs.Grammar.{GraphText}
 use Rattle.syntax.specs.Spelled.{Derives}
 use Rattle.syntax.specs.Tree.{IsTree}
-use Rattle.graph.proofs.AlikeGraphs.{graph_same}
+use Rattle.graph.proofs.AlikeTrees.{graph_same}
 use Rattle.graph.proofs.law.one_graph.Goals as goal
 
 pub returns : goal.returns

@@ -6,7 +6,7 @@ use Rattle.terms.specs.declared.name.StepCollection.{StepCollection}
 use Rattle.graph.specs.declared.graph.Prescribed.{Prescribed}
 use Rattle.graph.specs.Seen.{step_seen}
 use Rattle.graph.specs.Prescribed.{ArePrescriptions, numbers_of}
-use Rattle.graph.proofs.Rising.{value_prescribed, no_value}
+use Rattle.graph.proofs.PrescribedSteps.{value_prescribed, no_value}
 use Rattle.graph.proofs.prescriptions.prescriptions.Goals.{in-Some+in_ok-add_step, in_default}
 use Rattle.graph.proofs.prescriptions.prescriptions.Goals as goal
 

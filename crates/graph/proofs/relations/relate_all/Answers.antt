@@ -3,7 +3,7 @@ use Rattle.syntax.specs.declared.tree.Relation.{Relation}
 use Rattle.syntax.specs.declared.tree.Relation.TheVariants.{Prescribes}
 use Rattle.graph.proofs.FirstFaults.{fault_passed_on}
 use Rattle.graph.proofs.Lists.{stands}
-use Rattle.graph.proofs.Unmarked.{begun, next_related, first_related, all_related, nameless}
+use Rattle.graph.proofs.Relating.{begun, next_related, first_related, all_related, nameless}
 use Rattle.graph.proofs.relations.relate_all.Goals as goal
 
 pub loop-relation-init : goal.loop-relation-init

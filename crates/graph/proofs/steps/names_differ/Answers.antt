@@ -5,7 +5,7 @@ use Rattle.graph.specs.Faults.{At, repeated}
 use Rattle.graph.specs.Numbered.{names_numbered}
 use Rattle.graph.specs.Placed.{IsFirst, Reports}
 use Rattle.graph.proofs.FirstFaults.{in_front, empty_in_front, fault_passed_on}
-use Rattle.graph.proofs.Naming.{repeated_both}
+use Rattle.graph.proofs.Checking.{repeated_both}
 use Rattle.graph.proofs.steps.names_differ.Goals as goal
 
 pub returns-in_err-add_names : goal.returns-in_err-add_names

@@ -3,7 +3,7 @@ use Rattle.std.specs.Prelude.{is_some, not}
 use Rattle.steptree.specs.Names.{Text}
 use Rattle.graph.specs.Steps.{ArePlaces}
 use Rattle.graph.specs.Tree.{step_names}
-use Rattle.graph.proofs.Naming.{new_name, old_name, one_more_named, so_many}
+use Rattle.graph.proofs.Checking.{new_name, old_name, one_more_named, so_many}
 use Rattle.graph.proofs.steps.number_steps.Goals.{then-is_none+in_ok-push, else-is_none}
 use Rattle.graph.proofs.steps.number_steps.Goals as goal
 

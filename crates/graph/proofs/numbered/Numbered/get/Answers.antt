@@ -2,7 +2,7 @@ use Rattle.std.proofs.Common.{◌∙◌, List, ap}
 use Rattle.std.specs.String.{string_bytes}
 use Rattle.steptree.specs.Names.{Text}
 use Rattle.graph.specs.Numbered.{found}
-use Rattle.graph.proofs.Entries.{looked_up}
+use Rattle.graph.proofs.Places.{looked_up}
 use Rattle.graph.proofs.numbered.Numbered.get.Goals as goal
 
 pub returns : goal.returns

@@ -3,7 +3,7 @@ use Rattle.std.specs.Prelude.{option_map}
 use Rattle.std.specs.String.{string_bytes}
 use Rattle.steptree.specs.Names.{Text, place_of}
 use Rattle.graph.specs.Numbered.{names_numbered}
-use Rattle.graph.proofs.Entries.{name_there, once}
+use Rattle.graph.proofs.Places.{name_there, once}
 use Rattle.graph.proofs.numbered.Numbered.name.Goals as goal
 
 pub returns-in-Some-clause-name : goal.returns-in-Some-clause-name

@@ -3,8 +3,7 @@ use Rattle.std.specs.String.{string_bytes}
 use Rattle.std.specs.Map.{keys_of}
 use Rattle.steptree.specs.Names.{Text, place_of}
 use Rattle.graph.specs.Numbered.{names_numbered}
-use Rattle.graph.proofs.Places.{position_is_place}
-use Rattle.graph.proofs.Entries.{seen, names_seen}
+use Rattle.graph.proofs.Places.{position_is_place, seen, names_seen}
 use Rattle.graph.proofs.numbered.Numbered.number.Goals as goal
 
 pub returns-clause-number : goal.returns-clause-number

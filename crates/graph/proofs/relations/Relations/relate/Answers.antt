@@ -1,6 +1,6 @@
 use Rattle.std.proofs.Common.{◌∙◌, List, ap}
 use Rattle.steptree.specs.Names.{Text, place_of}
-use Rattle.graph.proofs.RelationKinds.{read_relates, item_put_relates, tag_put_relates, environment_item_put_relates, environment_tag_put_relates, environment_get_relates, prescription_relates}
+use Rattle.graph.proofs.Relating.{read_relates, item_put_relates, tag_put_relates, environment_item_put_relates, environment_tag_put_relates, environment_get_relates, prescription_relates}
 use Rattle.graph.proofs.relations.Relations.relate.Goals as goal
 
 pub returns-in-Prescribes : goal.returns-in-Prescribes
