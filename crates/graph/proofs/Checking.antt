@@ -1,7 +1,7 @@
 -- Names of steps and in steps, and the steps, one after another.
 use Rattle.std.proofs.Common.{◌≡◌, ◌<◌, ℕ, true, List, [], ◌∷◌, ◌++◌, length, get_or, take, drop, Some, None, Option, if◌then◌else◌, refl, sym, ap, subst, ◌∙◌, ◌+◌, arith, append_assoc, is_some, zero, suc, Bool, false, not, slice_get}
 use Rattle.std.proofs.Math.Seq.{take-length}
-use Rattle.std.proofs.lemmas.List.{take_more, map-append, length-map, length-take-le, append-nil, take-append-drop}
+use Rattle.std.proofs.lemmas.List.{take_more, map-append, length-map, length-take-le, append-nil, take-append-drop, drop_all}
 use Rattle.steptree.specs.declared.step.Name.{Name}
 use Rattle.steptree.specs.declared.step.Step.{Step as NamedStep}
 use Rattle.steptree.specs.Names.{Text, is_text, place_of, names_in}
@@ -14,7 +14,7 @@ use Rattle.graph.specs.Placed.{IsFirst}
 use Rattle.graph.specs.Steps.{ArePlaces, components_faults, components_by}
 use Rattle.graph.specs.Tree.{text_of, step_names, prescriber_of}
 use Rattle.graph.proofs.FirstFaults.{in_front, empty_in_front, behind_none}
-use Rattle.graph.proofs.Lists.{opened, past}
+use Rattle.graph.proofs.Lists.{opened}
 use Rattle.graph.proofs.Texts.{one_text, itself}
 use Rattle.std.proofs.lemmas.Bool.Decides.{nat_tests}
 use Rattle.std.specs.Prelude.{option_map}
@@ -59,7 +59,7 @@ module _ (before : List Text) (more : List Name) where
 
   pub all_added : (index : ℕ) (names : List Text) → index ≡ length more → AddedSoFar index names → (repeated before more ≡ []) × (names ≡ before ++ texts more)
   all_added index names end so =
-      (so.left ∙ ap (repeated names) (past more index end), so.added ∙ ap (λ (l : List Name). before ++ texts l) (ap (λ (n : ℕ). take n more) end ∙ take-length more))
+      (so.left ∙ ap (repeated names) (drop_all index more (omega (arith, end))), so.added ∙ ap (λ (l : List Name). before ++ texts l) (ap (λ (n : ℕ). take n more) end ∙ take-length more))
 
 -- ---- names of steps
 
@@ -185,7 +185,7 @@ module _ (tags : List Collection) (items : List Text) (all : List Relation) (ste
         ∙ ap (λ (l : List Text). step_faults tags all l (drop (index + 1) steps)) (one_more_named steps index this within is)
 
   pub all_checked : (index : ℕ) → index ≡ length steps → IsLeft index → step_faults tags all [] steps ≡ []
-  all_checked index end left = left ∙ ap (step_faults tags all (step_names (take index steps))) (past steps index end)
+  all_checked index end left = left ∙ ap (step_faults tags all (step_names (take index steps))) (drop_all index steps (omega (arith, end)))
 
 pub compared : (place : Option ℕ) (number : ℕ) → option_eq eqb place (Some number) ≡ is_place place number
 compared place number = grind (arith, nat_tests)

@@ -53,9 +53,6 @@ module _ {X : Type 0} (clash : X → X → Bool) where
     apart_both xs ys one.1 two (each_weaker (λ y. AllByRecursion (λ z. clash y z ≡ false) (x ∷ xs)) (λ y. AllByRecursion (λ z. clash y z ≡ false) xs) (λ y h. h.1) ys clear),
   )
 
-  pub clear_both : (before xs ys : List X) → Clear before xs → Clear before ys → Clear before (xs ++ ys)
-  clear_both before xs ys one two = each_of_both (λ y. AllByRecursion (λ x. clash y x ≡ false) before) xs ys one two
-
   pub clear_of_both : (xs ys behind : List X) → Clear xs behind → Clear ys behind → Clear (xs ++ ys) behind
   clear_of_both xs ys [] one two = tt
   clear_of_both xs ys (z ∷ behind) one two = (each_of_both (λ x. clash z x ≡ false) xs ys one.0 two.0, clear_of_both xs ys behind one.1 two.1)

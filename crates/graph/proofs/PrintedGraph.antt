@@ -1,7 +1,7 @@
 -- The canonical text of a graph that a text can give reads as that graph.
 use Rattle.std.proofs.Common.{◌≡◌, ℕ, zero, suc, ◌*◌, ◌^◌, ◌<◌, ◌≤◌, Bool, true, false, if◌then◌else◌, List, [], ◌∷◌, length, get_or, map, Option, Some, option_map, sym, ap, subst, ◌∙◌, arith, length-append, ◌+◌, ◌++◌, append_assoc}
 use Rattle.std.proofs.lemmas.List.{length-map, append-nil}
-use Rattle.std.specs.Prelude.{is_some, All}
+use Rattle.std.specs.Prelude.{is_some, All, slice_get}
 use Rattle.std.specs.List.{AllByRecursion, flat_map}
 use Rattle.std.proofs.lemmas.Option.{slice_get_within}
 use Rattle.terms.specs.declared.key.TheConstants.{MAX_COMPONENTS}
@@ -9,7 +9,7 @@ use Rattle.steptree.specs.Names.{Text, is_text, place_of, names_in, names_of}
 use Rattle.steptree.specs.Nameable.{Collection, Nameable}
 use Rattle.syntax.specs.Grammar.{Relation, Declaration, GraphText, item_declared, tag_declared}
 use Rattle.syntax.specs.Tree.{AreAll}
-use Rattle.graph.specs.Graph.{Graph, Step, IsOfGraph, sheet_of}
+use Rattle.graph.specs.Graph.{Graph, Step, IsOfGraph, sheet_of, IsGraph}
 use Rattle.graph.specs.Faults.{relation_faults, declaration_faults, step_faults}
 use Rattle.graph.specs.Textual.{IsGraphName, IsTextStep, IsTextual, CanonicalReads}
 use Rattle.graph.specs.Prescribed.{names_of_steps}
@@ -18,10 +18,10 @@ use Rattle.graph.proofs.PrintedTokens.{found_at, never, anything, Printed, and, 
 use Rattle.graph.proofs.PrintedBlocks.{many_names}
 use Rattle.graph.proofs.PrintedDeclarations.{Declarable, declaration_line, item_lines_printed, tag_lines_printed, Declares, tree_declaration, are_declarations, items_back, no_items, no_tags, tags_back, declarations_within, without_fault}
 use Rattle.graph.proofs.PrintedApart.{each_marked, fewer_marked, Apart, apart, Clear}
-use Rattle.graph.proofs.PrintedRelations.{Shape, a_prescription, a_read, an_item_put, a_tag_put, an_environment_item, an_environment_tag, an_environment_get, shape_of, Shaped, HasGoodNames, step_shapes, environment_shapes, shapes, tree_relation, shapes_back, shape_line, relations_printed, relation_lines, are_relations}
-use Rattle.graph.proofs.PrintedMarks.{reads_told, item_puts_told, tag_puts_told, prescribed, clash, IsThere, IsKnown, relations_without_fault, shapes_apart, environment_items_told, environment_tags_told, environment_gets_told}
+use Rattle.graph.proofs.PrintedRelations.{Shape, shape_of, Shaped, HasGoodNames, step_shapes, environment_shapes, shapes, tree_relation, shapes_back, shape_line, relations_printed, relation_lines, are_relations, Names}
+use Rattle.graph.proofs.PrintedMarks.{prescribed, clash, IsThere, IsKnown, relations_without_fault, shapes_apart, marks_told, step_marks_told, in_lists}
 use Rattle.graph.proofs.PrintedSteps.{IsGood, all_indexed, components_found, Facts, DerivedStep, step_printed, Shown, step_trees, names_shown, steps_within, steps_without_fault}
-use Rattle.graph.proofs.Lists.{each_at, each, each_weaker, each_unmapped, each_of_both, each_flat, each_mapped, as_many, no_both}
+use Rattle.graph.proofs.Lists.{each_at, each, each_weaker, each_unmapped, each_of_both, each_flat, each_mapped, as_many, no_both, each_found}
 use Rattle.graph.proofs.Texts.{itself}
 use Rattle.std.proofs.lemmas.Grind.{flat_map-append}
 use Rattle.steptree.specs.declared.sheet.TheConstants.{MOST_COLLECTIONS}
@@ -31,7 +31,7 @@ use Rattle.steptree.specs.Sheet.{BodyKeepsTo}
 use Rattle.syntax.specs.declared.tree.Tree.{Tree}
 use Rattle.syntax.specs.Spelled.{Piece, declaration_pieces, relation_pieces, step_pieces, graph_pieces}
 use Rattle.syntax.specs.Limits.{relation_limits}
-use Rattle.graph.specs.Tree.{items_of, tags_of, step_names, is_read, is_item_put, is_tag_put, each_of, sheet_in, IsStepOf}
+use Rattle.graph.specs.Tree.{items_of, tags_of, step_names, is_read, is_item_put, is_tag_put, each_of, sheet_in, IsStepOf, is_environment_item_put, is_environment_tag_put, is_environment_get}
 use Rattle.graph.proofs.PrintedExpressions.{AllPrinted, all_printed, no_all}
 use Rattle.graph.proofs.PrintedValues.{vec_of}
 
@@ -57,23 +57,24 @@ there_all (first ∷ rest) = (
 
 -- ---- what holds of each relation
 
--- of the relations of a step: its prescription, what it reads, and what it puts
-abbrev OfStep : (Shape → Type 0) → Graph → Step → Type 0
-OfStep P g step = P (a_prescription (get_or (names_in g.tags) step.prescriber []) step.name) × AllByRecursion (λ item. P (a_read item step.name)) (names_in g.items)
-    × AllByRecursion (λ item. P (an_item_put step.name item)) (names_in g.items) × AllByRecursion (λ tag. P (a_tag_put step.name tag)) (names_in g.tags)
-
--- and of those of the environment
-shapes_each : (P : Shape → Type 0) (g : Graph) → AllByRecursion (OfStep P g) g.steps → AllByRecursion (λ item. P (an_environment_item item)) (names_in g.items)
-    → AllByRecursion (λ tag. P (an_environment_tag tag)) (names_in g.tags) → AllByRecursion (λ item. P (an_environment_get item)) (names_in g.items) → AllByRecursion P (shapes g)
-shapes_each P g deeds one two three =
-    each_of_both P (flat_map (step_shapes g) g.steps) (environment_shapes g) (each_flat P (step_shapes g) g.steps (each_weaker (OfStep P g) (λ step. AllByRecursion P (step_shapes g step)) of_step g.steps deeds))
-    (search (each_of_both, each_mapped, each_marked))
-  where
-    of_step : (step : Step) → OfStep P g step → AllByRecursion P (step_shapes g step)
-    of_step step it = (it.0, search (each_of_both, each_mapped, each_marked, it.1, it.2, it.3))
-
 within_tags : (g : Graph) (step : Step) → IsOfGraph g step → step.prescriber < length (names_in g.tags)
 within_tags g step of_graph = let h = slice_get_within g.tags step.prescriber of_graph.prescribed.0 of_graph.prescribed.1 in omega (arith, many_names g.tags)
+
+-- what holds of the names of items, of tags and of steps holds of those in the relations
+shapes_named : (IsItem IsTag IsStep : Text → Type 0) (g : Graph) → IsGraph g → AllByRecursion IsItem (names_in g.items) → AllByRecursion IsTag (names_in g.tags) → AllByRecursion IsStep (names_of_steps g.steps)
+    → AllByRecursion (Names IsItem IsTag IsStep) (shapes g)
+shapes_named IsItem IsTag IsStep g graph items tags steps =
+    each_of_both (Names IsItem IsTag IsStep) (flat_map (step_shapes g) g.steps) (environment_shapes g)
+    (each_flat (Names IsItem IsTag IsStep) (step_shapes g) g.steps (all_indexed (λ step. AllByRecursion (Names IsItem IsTag IsStep) (step_shapes g step)) g.steps of_step))
+    (search (each_of_both, each_mapped, each_marked))
+  where
+    of_step : (index : ℕ) (step : Step) → slice_get g.steps index ≡ Some step → AllByRecursion (Names IsItem IsTag IsStep) (step_shapes g step)
+    of_step index step there =
+        let name : IsStep step.name = each_found (λ (it : Step). IsStep it.name) g.steps index step there (each_unmapped IsStep (λ (it : Step). it.name) g.steps steps) in
+        let reads : AllByRecursion (λ item. IsItem item × IsStep step.name) (names_in g.items) = each_weaker IsItem _ (λ item h. (h, name)) (names_in g.items) items in
+        let item_puts : AllByRecursion (λ item. IsStep step.name × IsItem item) (names_in g.items) = each_weaker IsItem _ (λ item h. (name, h)) (names_in g.items) items in
+        let tag_puts : AllByRecursion (λ tag. IsStep step.name × IsTag tag) (names_in g.tags) = each_weaker IsTag _ (λ tag h. (name, h)) (names_in g.tags) tags in
+        ((each_at IsTag (names_in g.tags) step.prescriber [] (within_tags g step (graph.steps index step there)) tags, name), search (each_of_both, each_mapped, each_marked))
 
 -- ---- how many relations
 
@@ -111,42 +112,21 @@ module _ (g : Graph) (is : IsTextual g) where
   good_steps = each_weaker (λ step. IsOfGraph g step × IsTextStep step) (IsGood g) (λ step h. record { of_graph = h.0; textual = h.1 }) g.steps (each_two (IsOfGraph g) IsTextStep g.steps of_graph is.steps)
 
   pub good_shapes : AllByRecursion HasGoodNames (shapes g)
-  good_shapes =
-      shapes_each HasGoodNames g
-      (each_weaker (IsGood g) (OfStep HasGoodNames g)
-      (λ step h. (
-        (each_at IsGraphName (names_in g.tags) step.prescriber [] (within_tags g step h.of_graph) is.tags.each, h.textual.name),
-        each_weaker IsGraphName (λ item. HasGoodNames (a_read item step.name)) (λ item k. (k, h.textual.name)) (names_in g.items) is.items.each,
-        each_weaker IsGraphName (λ item. HasGoodNames (an_item_put step.name item)) (λ item k. (h.textual.name, k)) (names_in g.items) is.items.each,
-        each_weaker IsGraphName (λ tag. HasGoodNames (a_tag_put step.name tag)) (λ tag k. (h.textual.name, k)) (names_in g.tags) is.tags.each,
-      )) g.steps good_steps)
-      is.items.each is.tags.each is.items.each
+  good_shapes = shapes_named IsGraphName IsGraphName IsGraphName g is.graph is.items.each is.tags.each is.step_names.each
 
   abbrev Known : Shape → Type 0
   Known shape = IsKnown (names_in g.items) (names_in g.tags) (names_of_steps g.steps) shape
 
   known_shapes : AllByRecursion Known (shapes g)
-  known_shapes =
-      let there : AllByRecursion (λ (step : Step). IsThere (names_of_steps g.steps) step.name) g.steps = each_unmapped (IsThere (names_of_steps g.steps)) (λ (step : Step). step.name) g.steps (there_all (names_of_steps g.steps)) in
-      let items : AllByRecursion (IsThere (names_in g.items)) (names_in g.items) = there_all (names_in g.items) in
-      let tags : AllByRecursion (IsThere (names_in g.tags)) (names_in g.tags) = there_all (names_in g.tags) in
-      shapes_each Known g
-      (each_weaker (λ step. IsOfGraph g step × IsThere (names_of_steps g.steps) step.name) (OfStep Known g)
-      (λ step h. (
-        (ap (λ (o : Option ℕ). is_some o) (found_at (names_in g.tags) step.prescriber is.tags.distinct (within_tags g step h.0)), h.1),
-        each_weaker (IsThere (names_in g.items)) (λ item. Known (a_read item step.name)) (λ item k. (k, h.1)) (names_in g.items) items,
-        each_weaker (IsThere (names_in g.items)) (λ item. Known (an_item_put step.name item)) (λ item k. (h.1, k)) (names_in g.items) items,
-        each_weaker (IsThere (names_in g.tags)) (λ tag. Known (a_tag_put step.name tag)) (λ tag k. (h.1, k)) (names_in g.tags) tags,
-      )) g.steps (each_two (IsOfGraph g) (λ (step : Step). IsThere (names_of_steps g.steps) step.name) g.steps of_graph there))
-      items tags items
+  known_shapes = shapes_named _ _ _ g is.graph (there_all (names_in g.items)) (there_all (names_in g.tags)) (there_all (names_of_steps g.steps))
 
   module _ (relations : List Relation) (shaped : AreAll Shaped (shapes g) relations) where
     pub facts : AllByRecursion (Facts g (map tree_relation relations)) g.steps
     facts = all_indexed (Facts g (map tree_relation relations)) g.steps (λ index step there.
         let of : IsOfGraph g step = is.graph.steps index step there in record {
-          reads = reads_told g relations shaped index step there steps_apart items_apart (of.each_read ∙ sym (many_names g.items));
-          item_puts = item_puts_told g relations shaped index step there steps_apart items_apart (of.each_item_put ∙ sym (many_names g.items));
-          tag_puts = tag_puts_told g relations shaped index step there steps_apart tags_apart (of.each_tag_put ∙ sym (many_names g.tags));
+          reads = step_marks_told g relations shaped (λ step item. is_read item step) (λ name text d. grind arith) g.items (λ (it : Step). it.reads) (λ name text. simp in_lists) index step there steps_apart items_apart of.each_read;
+          item_puts = step_marks_told g relations shaped is_item_put (λ name text d. grind arith) g.items (λ (it : Step). it.item_puts) (λ name text. simp in_lists) index step there steps_apart items_apart of.each_item_put;
+          tag_puts = step_marks_told g relations shaped is_tag_put (λ name text d. grind arith) g.tags (λ (it : Step). it.tag_puts) (λ name text. simp in_lists) index step there steps_apart tags_apart of.each_tag_put;
           prescriber = prescribed g relations shaped index step there steps_apart;
           place = found_at (names_in g.tags) step.prescriber is.tags.distinct (within_tags g step of);
           components = components_found g.tags step.prescriber of.prescribed.0 of.prescribed.1 tags_apart ∙ ap (λ (n : ℕ). Some n) of.prescribed.2;
@@ -276,9 +256,9 @@ canonical_reads g is short =
         items = sym items;
         tags = sym tags;
         steps = steps_of tree g items tags trees.values g.steps trees.shown all_facts;
-        environment_item_puts = sym (environment_items_told g relations it.relations.related (items_apart g is) (is.graph.each_item ∙ sym (many_names g.items)));
-        environment_tag_puts = sym (environment_tags_told g relations it.relations.related (tags_apart g is) (is.graph.each_tag ∙ sym (many_names g.tags)));
-        environment_gets = sym (environment_gets_told g relations it.relations.related (items_apart g is) (is.graph.each_get ∙ sym (many_names g.items)));
+        environment_item_puts = sym (marks_told g relations it.relations.related is_environment_item_put (λ name d. grind arith) g.items g.environment_item_puts (λ text. simp in_lists) (items_apart g is) is.graph.each_item);
+        environment_tag_puts = sym (marks_told g relations it.relations.related is_environment_tag_put (λ name d. grind arith) g.tags g.environment_tag_puts (λ text. simp in_lists) (tags_apart g is) is.graph.each_tag);
+        environment_gets = sym (marks_told g relations it.relations.related is_environment_get (λ name d. grind arith) g.items g.environment_gets (λ text. simp in_lists) (items_apart g is) is.graph.each_get);
       };
       canonical = short;
     }

@@ -53,14 +53,18 @@ shape_line (an_environment_item item) = arrow (codes "env") (in_brackets item)
 shape_line (an_environment_tag tag) = arrow (codes "env") (in_angles tag)
 shape_line (an_environment_get item) = arrow (in_brackets item) (codes "env")
 
+-- the names of items, of tags and of steps in the relation are such
+abbrev pub Names : (Text → Type 0) → (Text → Type 0) → (Text → Type 0) → Shape → Type 0
+Names IsItem IsTag IsStep (a_prescription tag step) = IsTag tag × IsStep step
+Names IsItem IsTag IsStep (a_read item step) = IsItem item × IsStep step
+Names IsItem IsTag IsStep (an_item_put step item) = IsStep step × IsItem item
+Names IsItem IsTag IsStep (a_tag_put step tag) = IsStep step × IsTag tag
+Names IsItem IsTag IsStep (an_environment_item item) = IsItem item
+Names IsItem IsTag IsStep (an_environment_tag tag) = IsTag tag
+Names IsItem IsTag IsStep (an_environment_get item) = IsItem item
+
 abbrev pub HasGoodNames : Shape → Type 0
-HasGoodNames (a_prescription tag step) = IsGraphName tag × IsGraphName step
-HasGoodNames (a_read item step) = IsGraphName item × IsGraphName step
-HasGoodNames (an_item_put step item) = IsGraphName step × IsGraphName item
-HasGoodNames (a_tag_put step tag) = IsGraphName step × IsGraphName tag
-HasGoodNames (an_environment_item item) = IsGraphName item
-HasGoodNames (an_environment_tag tag) = IsGraphName tag
-HasGoodNames (an_environment_get item) = IsGraphName item
+HasGoodNames shape = Names IsGraphName IsGraphName IsGraphName shape
 
 -- a derivation of this relation
 pub record Shaped (shape : Shape) (relation : Relation) : Type 0 where
@@ -144,26 +148,19 @@ flat_of_flat : {X Y Z : Type 0} (f : Y → List Z) (h : X → List Y) (k : X →
 flat_of_flat f h k same [] = refl
 flat_of_flat f h k same (x ∷ xs) = flat_map-append f (h x) (flat_map h xs) ∙ (λ i. same x i ++ flat_of_flat f h k same xs i)
 
--- three lists of texts, each with its own lines
-three : (a b c : Text → Shape) (xs ys zs : List Text) → flat_map shape_line (map a xs ++ map b ys ++ map c zs)
-    ≡ flat_map (λ x. shape_line (a x)) xs ++ flat_map (λ x. shape_line (b x)) ys ++ flat_map (λ x. shape_line (c x)) zs
-three a b c xs ys zs = simp (flat_map-append, flat_map-map)
-
 regrouped : (a b c d : Text) → a ++ (b ++ c ++ d) ≡ a ++ b ++ c ++ d
 regrouped a b c d = simp append_assoc
 
 step_lines : (g : Graph) (step : Step) → flat_map shape_line (step_shapes g step) ≡ step_relations g step
-step_lines g step =
-    ap (λ (l : Text). shape_line (a_prescription (get_or (names_in g.tags) step.prescriber []) step.name) ++ l)
-    (three (λ item. a_read item step.name) (λ item. an_item_put step.name item) (λ tag. a_tag_put step.name tag) (those g.items step.reads) (those g.items step.item_puts) (those g.tags step.tag_puts))
-    ∙ regrouped (shape_line (a_prescription (get_or (names_in g.tags) step.prescriber []) step.name)) (flat_map (λ item. shape_line (a_read item step.name)) (those g.items step.reads))
-    (flat_map (λ item. shape_line (an_item_put step.name item)) (those g.items step.item_puts)) (flat_map (λ tag. shape_line (a_tag_put step.name tag)) (those g.tags step.tag_puts))
+step_lines g step = simp (flat_map-append, flat_map-map) (regrouped (shape_line (a_prescription (get_or (names_in g.tags) step.prescriber []) step.name)) _ _ _)
 
 pub relation_lines : (g : Graph) → flat_map shape_line (shapes g) ≡ flat_map (step_relations g) g.steps ++ environment_relations g
 relation_lines g =
     flat_map-append shape_line (flat_map (step_shapes g) g.steps) (environment_shapes g)
-    ∙ (λ i. flat_of_flat shape_line (step_shapes g) (step_relations g) (step_lines g) g.steps i
-    ++ three (λ item. an_environment_item item) (λ tag. an_environment_tag tag) (λ item. an_environment_get item) (those g.items g.environment_item_puts) (those g.tags g.environment_tag_puts) (those g.items g.environment_gets) i)
+    ∙ (λ i. flat_of_flat shape_line (step_shapes g) (step_relations g) (step_lines g) g.steps i ++ environment_lines i)
+  where
+    environment_lines : flat_map shape_line (environment_shapes g) ≡ environment_relations g
+    environment_lines = simp (flat_map-append, flat_map-map)
 
 -- ---- trees of relations
 

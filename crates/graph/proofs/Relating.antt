@@ -13,7 +13,7 @@ use Rattle.graph.specs.Placed.{IsFirst, Reports}
 use Rattle.graph.specs.Marks.{AreRows, mark_between, mark_at, with_mark, with_mark_between, AreMarks, ArePrescribers, prescriber_at, with_prescriber, bits}
 use Rattle.graph.specs.Relations.{AreRelations, Relates, read_faults, put_faults, environment_faults, prescription_faults, AreNumbers, IsUnmarked}
 use Rattle.graph.specs.Tree.{text_of, prescriber_of, is_read, is_item_put, is_tag_put, is_environment_item_put, is_environment_tag_put, is_environment_get}
-use Rattle.graph.proofs.Lists.{any_agree, opened, past}
+use Rattle.graph.proofs.Lists.{any_agree, opened}
 use Rattle.std.proofs.Math.Bool.{and_comm}
 use Rattle.std.specs.declared.alloc.Global.{Global}
 use Rattle.syntax.specs.declared.tree.Relation.TheVariants as related
@@ -24,7 +24,7 @@ use Rattle.graph.proofs.Marks.{marks_stay, one_marked, rows_stay, two_marked}
 use Rattle.graph.proofs.Prescribers.{prescribers_stay, one_prescribed, both_there}
 use Rattle.graph.proofs.Texts.{same_both_ways}
 use Rattle.std.proofs.Math.Seq.{take-length}
-use Rattle.std.proofs.lemmas.List.{take_more, length-replicate, length-map}
+use Rattle.std.proofs.lemmas.List.{take_more, length-replicate, length-map, drop_all}
 use Rattle.graph.specs.Numbered.{names_numbered}
 use Rattle.graph.specs.declared.relations.Numbers.{Numbers}
 use Rattle.graph.proofs.FirstFaults.{in_front, empty_in_front}
@@ -265,7 +265,7 @@ module _ (items tags steps : List Text) (all : List Relation) where
     first_related fault first = subst (λ (l : List At). IsFirst l fault) (sym here) (in_front (relation_fault items tags steps (take index all) this) _ fault first)
 
   pub all_related : (index : ℕ) (them : Relations) → index ≡ length all → RelatedSoFar index them → (relation_faults items tags steps [] all ≡ []) × AreRelations items tags steps all them
-  all_related index them end so = (so.left ∙ ap (relation_faults items tags steps (take index all)) (past all index end), subst (λ (l : List Relation). AreRelations items tags steps l them) (ap (λ (n : ℕ). take n all) end ∙ take-length all) so.are)
+  all_related index them end so = (so.left ∙ ap (relation_faults items tags steps (take index all)) (drop_all index all (omega (arith, end))), subst (λ (l : List Relation). AreRelations items tags steps l them) (ap (λ (n : ℕ). take n all) end ∙ take-length all) so.are)
 
 names_long : {V : Type 0} (numbered : List (Text × V)) → length (names_numbered numbered) ≡ length numbered
 names_long numbered = length-map numbered (λ entry. entry.0)

@@ -1,6 +1,6 @@
 -- The parts of a tree, one after another.
-use Rattle.std.proofs.Common.{◌≡◌, ◌<◌, ℕ, List, [], ◌∷◌, ◌++◌, length, take, drop, get_or, refl, sym, ap, subst, ◌∙◌, ◌+◌, map}
-use Rattle.std.proofs.lemmas.List.{take_more, map-append, append-nil, length-map}
+use Rattle.std.proofs.Common.{◌≡◌, ◌<◌, ℕ, List, [], ◌∷◌, ◌++◌, length, take, drop, get_or, refl, sym, ap, subst, ◌∙◌, ◌+◌, map, arith}
+use Rattle.std.proofs.lemmas.List.{take_more, map-append, append-nil, length-map, drop_all}
 use Rattle.steptree.specs.declared.step.Name.{Name}
 use Rattle.steptree.specs.Names.{Text, names_in, place_of}
 use Rattle.steptree.specs.Nameable.{Collection}
@@ -14,7 +14,7 @@ use Rattle.graph.specs.Numbered.{names_numbered, found}
 use Rattle.graph.specs.Placed.{IsFirst}
 use Rattle.graph.specs.Tree.{items_of, tags_of, text_of, step_names}
 use Rattle.graph.proofs.FirstFaults.{in_front, empty_in_front, behind_none}
-use Rattle.graph.proofs.Lists.{opened, past}
+use Rattle.graph.proofs.Lists.{opened}
 use Rattle.graph.proofs.Seen.{items_named}
 use Rattle.steptree.specs.declared.step.Step.{Step as NamedStep}
 use Rattle.syntax.specs.declared.tree.Relation.{Relation}
@@ -124,7 +124,7 @@ module _ (ds : List Declaration) where
         (in_front (again (names_in (tags_of (take index ds))) name) _ fault (subst (λ (l : List Text). IsFirst (again l name) fault) names first))
 
   pub all_declared : (index : ℕ) (items tags : Collections) → index ≡ length ds → SoFar index items tags → declaration_faults [] [] ds ≡ []
-  all_declared index items tags all so = so.left ∙ ap (declaration_faults (names_in (items_of (take index ds))) (names_in (tags_of (take index ds)))) (past ds index all)
+  all_declared index items tags all so = so.left ∙ ap (declaration_faults (names_in (items_of (take index ds))) (names_in (tags_of (take index ds)))) (drop_all index ds (omega (arith, all)))
 
 pub as_many_names : (steps : List NamedStep) → length (step_names steps) ≡ length steps
 as_many_names steps = length-map steps (λ (step : NamedStep). text_of step.name)

@@ -10,16 +10,13 @@ use Rattle.graph.specs.Graph.{Step, Graph, IsGraph}
 use Rattle.graph.specs.Seen.{collection_seen, step_seen}
 use Rattle.graph.specs.Numbered.{names_numbered}
 use Rattle.graph.specs.Prescribed.{prescribed_by, prescribed_from, names_of_steps}
-
-fused : {X Y Z : Type 0} (f : X → Y) (g : Y → Z) (xs : List X) → map g (map f xs) ≡ map (λ x. g (f x)) xs
-fused f g [] = refl
-fused f g (x ∷ xs) = ap (λ l. g (f x) ∷ l) (fused f g xs)
+use Rattle.std.proofs.lemmas.Simd.{map-map}
 
 pub items_named : (items : List (Text × ℕ)) → names_numbered items ≡ names_in (map collection_seen items)
-items_named items = sym (fused collection_seen (λ collection. collection.name) items)
+items_named items = sym (map-map (λ collection. collection.name) collection_seen items)
 
 pub steps_named : (steps : List (Text × Prescribed)) → names_numbered steps ≡ names_of_steps (map step_seen steps)
-steps_named steps = sym (fused step_seen (λ step. step.name) steps)
+steps_named steps = sym (map-map (λ step. step.name) step_seen steps)
 
 none_of : (tag number : ℕ) (steps : List Step) → ((place : ℕ) (step : Step) → slice_get steps place ≡ Some step → (step.prescriber == tag) ≡ false) → prescribed_from number steps tag ≡ []
 none_of tag number [] other = refl

@@ -1,6 +1,6 @@
 -- What a tree without a fault lets its steps name, as its tables say; and the faults of its bodies, one step after another.
 use Rattle.std.proofs.Common.{◌≡◌, ◌<◌, ℕ, suc, Bool, false, List, [], ◌∷◌, length, map, get_or, Option, Some, None, refl, sym, ap, subst, ◌∙◌, slice_get, arith, ◌+◌, zero, ◌++◌, take, drop, inl, inr}
-use Rattle.std.proofs.lemmas.List.{length-map, take_more, take-append-drop, map-append}
+use Rattle.std.proofs.lemmas.List.{length-map, take_more, take-append-drop, map-append, get_or_default}
 use Rattle.std.specs.Prelude.{Vec, IsSome, option_map, ◌⊎◌}
 use Rattle.std.specs.List.{IsDistinct, list_any}
 use Rattle.std.specs.Str.{bytes_eq}
@@ -24,7 +24,7 @@ use Rattle.graph.specs.Resolved.{IsResolved}
 use Rattle.graph.specs.Small.{IsSmall, IsSmallStep}
 use Rattle.graph.specs.Tree.{text_of, items_of, tags_of, step_names, is_read, is_item_put, is_tag_put, each_of, prescriber_of, sheet_in}
 use Rattle.graph.proofs.Faultless.{items_apart, tags_apart, step_names_apart, no_arity}
-use Rattle.graph.proofs.Lists.{any_default, each_at, each_found, opened, in_common, are_both}
+use Rattle.graph.proofs.Lists.{each_at, each_found, opened, in_common, are_both}
 use Rattle.graph.proofs.Marks.{stood}
 use Rattle.graph.proofs.Places.{own_place}
 use Rattle.std.proofs.Math.Seq.{take-length}
@@ -117,7 +117,7 @@ module _ (tree : Tree) (resolved : Resolved) (small : IsSmall tree) (none : tree
   pub copied_row : (is : Text → Text → Relation → Bool) (names : List Text) (rows : List (Vec Bool Global)) (one two : Vec Bool Global) (copy row : List Bool)
       → AreRows is (step_names tree.steps.items) names tree.relations.items (map (λ row. row.items) rows) → one ≡ get_or rows number one → two ≡ get_or rows number two → copy ≡ two.items → row ≡ one.items → copy ≡ row
   copied_row is names rows one two copy row them here again copied same =
-      let both = again ∙ any_default rows number two one (omega (arith, is_within, them.long, length-map rows (λ row. row.items))) ∙ sym here in
+      let both = again ∙ get_or_default rows number two one (omega (arith, is_within, them.long, length-map rows (λ row. row.items))) ∙ sym here in
       copied ∙ ap (λ (v : Vec Bool Global). v.items) both ∙ sym same
 
   pub within_limits : (sheet : Nameable) → sheet.items ≡ resolved.items.declared.items → sheet.tags ≡ resolved.tags.declared.items → IsWithinLimits sheet step

@@ -8,9 +8,10 @@ use Rattle.graph.specs.CheckedSteps.{IsBodyFault, IsCheckedStep}
 use Rattle.steptree.specs.Names.{names_in}
 use Rattle.graph.specs.Tree.{items_of, tags_of, is_read, is_item_put, is_tag_put}
 use Rattle.graph.proofs.FirstFaults.{fault_passed_on}
-use Rattle.graph.proofs.Lists.{any_default, there_at}
+use Rattle.graph.proofs.Lists.{there_at}
 use Rattle.graph.proofs.Sheets.{within_limits, is_sheet, is_prescribed, prescribed_by, prescriber_within, first_of_body, one_step, copied_row}
 use Rattle.graph.proofs.bodies.check_step.Goals as goal
+use Rattle.std.proofs.lemmas.List.{get_or_default}
 
 pub check_body-requires : goal.check_body-requires
 check_body-requires c =
@@ -34,7 +35,7 @@ unwrap-requires c =
     let step = c.index-4.result.now in
     let there : slice_get c.args.tree.now.steps.items c.args.number ≡ Some step = there_at c.args.tree.now.steps.items c.args.number step c.requires.within c.index-4.ensures in
     is_prescribed c.args.tree.now c.args.resolved.now c.requires.small c.requires.no_fault c.requires.resolved c.args.number step there c.index-5.result.now
-    (any_default c.args.resolved.now.relations.prescribers.items c.args.number None c.index-5.result.now
+    (get_or_default c.args.resolved.now.relations.prescribers.items c.args.number None c.index-5.result.now
     (prescriber_within c.args.tree.now c.args.resolved.now c.requires.small c.requires.no_fault c.requires.resolved c.args.number step there) ∙ sym c.index-5.ensures)
 
 pub returns : goal.returns
@@ -45,7 +46,7 @@ returns c = λ step there.
     let sheet : Nameable = record { items = c.deref.result.now; tags = c.deref-2.result.now; reads = c.deref-3.result.now; item_puts = c.deref-4.result.now; tag_puts = c.deref-5.result.now } in
     let is = is_sheet tree c.args.resolved.now c.requires.small c.requires.no_fault c.requires.resolved c.args.number this here sheet c.index.result.now c.index-2.result.now c.index-3.result.now (assumption) in
     let at =
-    any_default c.args.resolved.now.relations.prescribers.items c.args.number None c.index-5.result.now
+    get_or_default c.args.resolved.now.relations.prescribers.items c.args.number None c.index-5.result.now
     (prescriber_within c.args.tree.now c.args.resolved.now c.requires.small c.requires.no_fault c.requires.resolved c.args.number this here) ∙ sym c.index-5.ensures in
     let resolved = c.args.resolved.now in
     let relations = c.requires.resolved.relations in
