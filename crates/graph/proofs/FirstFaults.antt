@@ -1,9 +1,8 @@
 -- The first of the faults of several parts.
-use Rattle.std.proofs.Common.{◌≡◌, Bool, true, false, ℕ, List, [], ◌∷◌, ◌++◌, sym, ap, subst, inl, inr}
+use Rattle.std.proofs.Common.{◌≡◌, List, [], ◌∷◌, ◌++◌, sym, ap, subst, inl, inr}
 use Rattle.std.specs.Prelude.{Result, Ok, Err, IfErr, IsErrAnd, MatchResult}
-use Rattle.graph.specs.declared.fault.GraphError.{GraphError}
 use Rattle.graph.specs.declared.fault.PlacedFault.{PlacedFault}
-use Rattle.graph.specs.Faults.{At, fault_if}
+use Rattle.graph.specs.Faults.{At}
 use Rattle.graph.specs.Placed.{IsFirst}
 
 pub empty_in_front : (xs ys : List At) → xs ≡ [] → xs ++ ys ≡ ys
@@ -18,13 +17,6 @@ in_front (x ∷ front) others fault first = first
 -- if the front part has no fault, the first of the others is the first of all
 pub behind_none : (front others : List At) (fault : PlacedFault) → front ≡ [] → IsFirst others fault → IsFirst (front ++ others) fault
 behind_none front others fault none first = subst (λ (l : List At). IsFirst l fault) (sym (empty_in_front front others none)) first
-
--- a fault that is there, and one that is not
-pub there : (holds : Bool) (error : GraphError) (position : ℕ) → holds ≡ true → fault_if holds error position ≡ (error, position) ∷ []
-there holds error position is = ap (λ (b : Bool). fault_if b error position) is
-
-pub nothing : (holds : Bool) (error : GraphError) (position : ℕ) → holds ≡ false → fault_if holds error position ≡ []
-nothing holds error position is = ap (λ (b : Bool). fault_if b error position) is
 
 -- a fault that is passed on, whatever is known of a value
 pub fault_passed_on : {X : Type 0} (P : X → Type 0) (Q : PlacedFault → Type 0) (result : Result X PlacedFault) (fault : PlacedFault) → IsErrAnd result (λ other. other ≡ fault) → Q fault → MatchResult result P Q

@@ -186,9 +186,6 @@ in_parts g before one two = (parts g before one two, λ both. joined g before on
 
 -- ---- as sets
 
-pub state_as_set : (g : Graph) (E F X Y : Facts) → SameSet E F → SameSet X Y → FitsState g E X → FitsState g F Y
-state_as_set g E F X Y given there state = subst (λ (Z : Facts). FitsState g F Z) (λ i fact. there fact i) (subst (λ (Z : Facts). FitsState g Z X) (λ i fact. given fact i) state)
-
 pub event_as_set : (g : Graph) (X Y : Facts) (event : Event) → SameSet X Y → Fits g X event → Fits g Y event
 event_as_set g X Y event same fits = subst (λ (Z : Facts). Fits g Z event) (λ i fact. same fact i) fits
 

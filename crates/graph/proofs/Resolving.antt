@@ -1,6 +1,6 @@
 -- The parts of a tree, one after another.
-use Rattle.std.proofs.Common.{◌≡◌, ◌<◌, ℕ, List, [], ◌∷◌, ◌++◌, length, take, drop, get_or, refl, sym, ap, subst, ◌∙◌, ◌+◌, map, arith}
-use Rattle.std.proofs.lemmas.List.{take_more, map-append, append-nil, length-map, drop_all}
+use Rattle.std.proofs.Common.{◌≡◌, ◌<◌, ℕ, List, [], ◌∷◌, ◌++◌, length, take, drop, get_or, refl, sym, ap, subst, ◌∙◌, ◌+◌, map}
+use Rattle.std.proofs.lemmas.List.{take_more, map-append, append-nil, length-map}
 use Rattle.steptree.specs.declared.step.Name.{Name}
 use Rattle.steptree.specs.Names.{Text, names_in, place_of}
 use Rattle.steptree.specs.Nameable.{Collection}
@@ -123,8 +123,6 @@ module _ (ds : List Declaration) where
         subst (λ (l : List At). IsFirst l fault) (sym whole)
         (in_front (again (names_in (tags_of (take index ds))) name) _ fault (subst (λ (l : List Text). IsFirst (again l name) fault) names first))
 
-  pub all_declared : (index : ℕ) (items tags : Collections) → index ≡ length ds → SoFar index items tags → declaration_faults [] [] ds ≡ []
-  all_declared index items tags all so = so.left ∙ ap (declaration_faults (names_in (items_of (take index ds))) (names_in (tags_of (take index ds)))) (drop_all index ds (omega (arith, all)))
 
 pub as_many_names : (steps : List NamedStep) → length (step_names steps) ≡ length steps
 as_many_names steps = length-map steps (λ (step : NamedStep). text_of step.name)
