@@ -1,7 +1,7 @@
 -- Names of steps and in steps, and the steps, one after another.
 use Rattle.std.proofs.Common.{◌≡◌, ◌<◌, ℕ, true, List, [], ◌∷◌, ◌++◌, length, get_or, take, drop, Some, None, Option, if◌then◌else◌, refl, sym, ap, subst, ◌∙◌, ◌+◌, arith, append_assoc, is_some, zero, suc, Bool, false, not, slice_get}
 use Rattle.std.proofs.Math.Seq.{take-length}
-use Rattle.std.proofs.lemmas.List.{take_more, map-append, length-map, length-take-le, append-nil, take-append-drop, drop_all}
+use Rattle.std.proofs.lemmas.List.{take_more, map-append, length-map, length-take-le, append-nil, take-append-drop, drop_all, get_or_default}
 use Rattle.steptree.specs.declared.step.Name.{Name}
 use Rattle.steptree.specs.declared.step.Step.{Step as NamedStep}
 use Rattle.steptree.specs.Names.{Text, is_text, place_of, names_in}
@@ -23,10 +23,10 @@ use Rattle.syntax.specs.declared.tree.Relation.{Relation}
 use Rattle.graph.specs.declared.relations.Relations.{Relations}
 use Rattle.graph.specs.Marks.{IsPrescriber, prescriber_at}
 use Rattle.graph.specs.Relations.{AreRelations}
-use Rattle.graph.proofs.Marks.{is_place}
 use Rattle.std.specs.Option.{option_eq}
 use Rattle.std.proofs.Math.Dec.{eqb}
 use Rattle.steptree.specs.Nameable.{Collection}
+use Rattle.graph.specs.declared.fault.GraphError.{GraphError}
 
 -- ---- names in a step
 
@@ -119,52 +119,51 @@ arity tags step (Some tag) (Some number) is =
 
 -- ---- steps that appear twice
 
--- the first place of a name is this one exactly if it does not appear before
-own : (names : List Text) (name : Text) (more : List Text) → is_place (place_of (names ++ name ∷ more) name) (length names) ≡ not (is_some (place_of names name))
+-- a name appears before a number exactly if its first place is not this number
+own : (names : List Text) (name : Text) (more : List Text) → not (option_eq eqb (place_of (names ++ name ∷ more) name) (Some (length names))) ≡ is_some (place_of names name)
 own [] name more = grind (arith, nat_tests, itself name)
 own (first ∷ names) name more = grind (arith, nat_tests, own names name more)
 
-its_place : (place : Option ℕ) (number : ℕ) → is_place place number ≡ true → place ≡ Some number
-its_place place number e = grind (arith, nat_tests)
+its_place : (place : Option ℕ) (number : ℕ) (twice : Bool) → twice ≡ not (option_eq eqb place (Some number)) → twice ≡ false → place ≡ Some number
+its_place place number twice tells once = grind (arith, nat_tests)
 
-not_twice : (b : Bool) → not (not b) ≡ b
-not_twice b = grind arith
+-- faults that count only if there is no other
+if_once : (twice : Bool) (error : GraphError) (position : ℕ) (xs ys : List At) → (twice ≡ false → xs ≡ ys) → or_else (fault_if twice error position) xs ≡ or_else (fault_if twice error position) ys
+if_once true error position xs ys same = refl
+if_once false error position xs ys same = same refl
 
 module _ (tags : List Collection) (items : List Text) (all : List Relation) (steps : List NamedStep) (relations : Relations)
     (are : AreRelations items (names_in tags) (step_names steps) all relations) where
   abbrev pub IsLeft : ℕ → Type 0
   IsLeft index = step_faults tags all [] steps ≡ step_faults tags all (step_names (take index steps)) (drop index steps)
 
-  module _ (index : ℕ) (this : NamedStep) (within : index < length steps) (is : this ≡ get_or steps index this) (left : IsLeft index) (twice : Bool)
-      (tells : twice ≡ not (is_place (place_of (step_names steps) (text_of this.name)) index)) where
+  module _ (index : ℕ) (this : NamedStep) (within : index < length steps) (is : this ≡ get_or steps index this) (left : IsLeft index) (place : Option ℕ)
+      (found : place ≡ place_of (step_names steps) (text_of this.name)) (twice : Bool) (tells : twice ≡ not (option_eq eqb place (Some index))) (prescriber : Option TagCollection)
+      (by : prescriber ≡ get_or relations.prescribers.items index prescriber) (components : Option ℕ) (theirs : components ≡ components_by tags prescriber) where
     abbrev pub prescription : List At
-    prescription = or_else (fault_if twice StepTwice this.name.place) (components_faults (components_by tags (get_or relations.prescribers.items index None)) this)
+    prescription = or_else (fault_if twice StepTwice this.name.place) (components_faults components this)
 
     whole : step_names steps ≡ step_names (take index steps) ++ text_of this.name ∷ step_names (drop (index + 1) steps)
     whole = ap step_names (sym (take-append-drop index steps)) ∙ map-append (λ step. text_of step.name) (take index steps) (drop index steps)
         ∙ ap (λ (l : List NamedStep). step_names (take index steps) ++ step_names l) (opened steps index this within is)
 
     stands_before : twice ≡ has (step_names (take index steps)) this.name
-    stands_before = tells
-        ∙ ap (λ (l : List Text). not (is_place (place_of l (text_of this.name)) index)) whole
-        ∙ ap (λ (n : ℕ). not (is_place (place_of (step_names (take index steps) ++ text_of this.name ∷ step_names (drop (index + 1) steps)) (text_of this.name)) n)) (sym (so_many steps index this within is))
-        ∙ ap not (own (step_names (take index steps)) (text_of this.name) (step_names (drop (index + 1) steps)))
-        ∙ not_twice (is_some (place_of (step_names (take index steps)) (text_of this.name)))
+    stands_before =
+        tells ∙ (λ i. not (option_eq eqb ((found ∙ ap (λ (l : List Text). place_of l (text_of this.name)) whole) i) (Some (sym (so_many steps index this within is) i))))
+        ∙ own (step_names (take index steps)) (text_of this.name) (step_names (drop (index + 1) steps))
+
+    its_components : twice ≡ false → arity_faults tags (prescriber_of all (text_of this.name)) this ≡ components_faults components this
+    its_components once =
+        let here : place_of (step_names steps) (text_of this.name) ≡ Some index = sym found ∙ its_place place index twice tells once in
+        let inside : index < length relations.prescribers.items = omega (arith, within, are.prescribers.long, length-map steps (λ (step : NamedStep). text_of step.name)) in
+        arity tags this (prescriber_of all (text_of this.name)) prescriber
+        (subst (IsPrescriber (names_in tags) (prescriber_of all (text_of this.name))) (ap (prescriber_at relations.prescribers.items) here ∙ get_or_default _ index None prescriber inside ∙ sym by) (are.prescribers.each (text_of this.name)))
+        ∙ ap (λ (o : Option ℕ). components_faults o this) (sym theirs)
 
     same_prescription : or_else (fault_if (has (step_names (take index steps)) this.name) StepTwice this.name.place) (arity_faults tags (prescriber_of all (text_of this.name)) this) ≡ prescription
     same_prescription =
-        ap (λ (b : Bool). or_else (fault_if b StepTwice this.name.place) (arity_faults tags (prescriber_of all (text_of this.name)) this)) (sym stands_before) ∙ by twice refl
-      where
-        by : (b : Bool) → twice ≡ b
-            → or_else (fault_if b StepTwice this.name.place) (arity_faults tags (prescriber_of all (text_of this.name)) this)
-            ≡ or_else (fault_if b StepTwice this.name.place) (components_faults (components_by tags (get_or relations.prescribers.items index None)) this)
-        by true e = refl
-        by false e =
-            let here : place_of (step_names steps) (text_of this.name) ≡ Some index =
-            its_place (place_of (step_names steps) (text_of this.name)) index (sym (not_twice (is_place (place_of (step_names steps) (text_of this.name)) index)) ∙ ap not (sym tells ∙ e)) in
-            arity tags this (prescriber_of all (text_of this.name)) (get_or relations.prescribers.items index None)
-            (subst (λ (p : Option ℕ). IsPrescriber (names_in tags) (prescriber_of all (text_of this.name)) (prescriber_at relations.prescribers.items p)) here
-            (are.prescribers.each (text_of this.name)))
+        ap (λ (b : Bool). or_else (fault_if b StepTwice this.name.place) (arity_faults tags (prescriber_of all (text_of this.name)) this)) (sym stands_before)
+        ∙ if_once twice StepTwice this.name.place _ _ its_components
 
     abbrev pub naming : List At
     naming = repeated [] (this.parameters.items ++ this.variables.items)
@@ -186,6 +185,3 @@ module _ (tags : List Collection) (items : List Text) (all : List Relation) (ste
 
   pub all_checked : (index : ℕ) → index ≡ length steps → IsLeft index → step_faults tags all [] steps ≡ []
   all_checked index end left = left ∙ ap (step_faults tags all (step_names (take index steps))) (drop_all index steps (omega (arith, end)))
-
-pub compared : (place : Option ℕ) (number : ℕ) → option_eq eqb place (Some number) ≡ is_place place number
-compared place number = grind (arith, nat_tests)
