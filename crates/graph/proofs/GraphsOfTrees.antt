@@ -24,13 +24,12 @@ use Rattle.std.specs.declared.alloc.Global.{Global}
 use Rattle.std.proofs.lemmas.Option.{slice_get_within, get_or_from_slice_get}
 use Rattle.terms.specs.declared.name.StepCollection.{StepCollection}
 use Rattle.syntax.specs.Tree.{AreAll}
-use Rattle.graph.specs.declared.graph.Graph.TheInside.{Inside}
 use Rattle.graph.specs.declared.graph.Prescribed.{Prescribed}
 use Rattle.graph.specs.declared.resolved.Resolved.{Resolved}
 use Rattle.graph.specs.CheckedSteps.{IsCheckedStep, AreCheckedSteps}
 use Rattle.graph.specs.declared.limits.TheConstants.{MOST_TEXT}
 use Rattle.graph.specs.Canonical.{canonical}
-use Rattle.graph.specs.Inside.{graph_seen, IsKept}
+use Rattle.graph.specs.Inside.{IsKept}
 use Rattle.graph.specs.Seen.{collection_seen, step_seen}
 use Rattle.graph.specs.Prescribed.{numbers_of, ArePrescriptions}
 use Rattle.graph.specs.Reads.{Reads, IsOfText}
@@ -112,22 +111,20 @@ all_prescribed _ _ _ _ _ all = absurd (assumption)
 
 -- ---- the graph
 
-module _ (tree : Tree) (resolved : Resolved) (steps : List (Text × Prescribed)) (prescribes : Vec (Vec StepCollection Global) Global)
-    (small : IsSmall tree) (none : tree_faults tree ≡ []) (are : IsResolved tree resolved) (checked : AreCheckedSteps tree tree.steps.items steps)
-    (lists : ArePrescriptions (map step_seen steps) (length resolved.tags.numbered) (numbers_of prescribes.items)) where
-  abbrev pub inside : Inside
-  inside = record {
-    items = resolved.items.numbered;
-    tags = resolved.tags.numbered;
-    prescribes = prescribes;
-    steps = steps;
-    environment_item_puts = resolved.relations.environment_item_puts;
-    environment_tag_puts = resolved.relations.environment_tag_puts;
-    environment_gets = resolved.relations.environment_gets;
+module _ (tree : Tree) (resolved : Resolved) (steps : List (Text × Prescribed)) (small : IsSmall tree) (none : tree_faults tree ≡ []) (are : IsResolved tree resolved) (checked : AreCheckedSteps tree tree.steps.items steps) where
+  -- the graph with its environment rows given apart
+  abbrev pub rowed : List Bool → List Bool → List Bool → Graph
+  rowed item_puts tag_puts gets = record {
+    items = map collection_seen resolved.items.numbered;
+    tags = map collection_seen resolved.tags.numbered;
+    steps = map step_seen steps;
+    environment_item_puts = item_puts;
+    environment_tag_puts = tag_puts;
+    environment_gets = gets;
   }
 
   abbrev pub g : Graph
-  g = graph_seen inside
+  g = rowed resolved.relations.environment_item_puts.items resolved.relations.environment_tag_puts.items resolved.relations.environment_gets.items
 
   step_of : (named : NamedStep) (entry : Text × Prescribed) → entry.0 ≡ text_of named.name → IsCheckedStep tree named entry.1 → IsStepOf tree g named (step_seen entry)
   step_of named entry name is = record {
@@ -153,39 +150,48 @@ module _ (tree : Tree) (resolved : Resolved) (steps : List (Text × Prescribed))
     items = are.items.numbered;
     tags = are.tags.numbered;
     steps = steps_of tree.steps.items steps checked;
-    environment_item_puts = row_told is_environment_item_put _ tree.relations.items _ (items_apart tree none) are.relations.environment_item_puts ∙ ap (λ (l : List Collection). each_of is_environment_item_put tree.relations.items (names_in l)) (sym are.items.numbered);
-    environment_tag_puts = row_told is_environment_tag_put _ tree.relations.items _ (tags_apart tree none) are.relations.environment_tag_puts ∙ ap (λ (l : List Collection). each_of is_environment_tag_put tree.relations.items (names_in l)) (sym are.tags.numbered);
-    environment_gets = row_told is_environment_get _ tree.relations.items _ (items_apart tree none) are.relations.environment_gets ∙ ap (λ (l : List Collection). each_of is_environment_get tree.relations.items (names_in l)) (sym are.items.numbered);
+    environment_item_puts = rw are.items.numbered (row_told is_environment_item_put _ tree.relations.items _ (items_apart tree none) are.relations.environment_item_puts);
+    environment_tag_puts = rw are.tags.numbered (row_told is_environment_tag_put _ tree.relations.items _ (tags_apart tree none) are.relations.environment_tag_puts);
+    environment_gets = rw are.items.numbered (row_told is_environment_get _ tree.relations.items _ (items_apart tree none) are.relations.environment_gets);
   }
 
   pub is_graph : IsGraph g
   is_graph = graph_is tree g small none is_its_graph
 
-  -- the graph with its environment rows given apart
-  abbrev pub rowed : List Bool → List Bool → List Bool → Graph
-  rowed item_puts tag_puts gets =
-      record { items = g.items; tags = g.tags; steps = g.steps; environment_item_puts = item_puts; environment_tag_puts = tag_puts; environment_gets = gets }
+  pub graph_rowed : (item_puts tag_puts gets : List Bool) → item_puts ≡ g.environment_item_puts → tag_puts ≡ g.environment_tag_puts → gets ≡ g.environment_gets → IsGraph (rowed item_puts tag_puts gets)
+  graph_rowed item_puts tag_puts gets one two three = subst IsGraph (λ i. rowed (sym one i) (sym two i) (sym three i)) is_graph
 
-  pub with_rows : (item_puts tag_puts gets : List Bool) → item_puts ≡ g.environment_item_puts → tag_puts ≡ g.environment_tag_puts → gets ≡ g.environment_gets → rowed item_puts tag_puts gets ≡ g
-  with_rows item_puts tag_puts gets one two three = λ i. rowed (one i) (two i) (three i)
+  pub spelled : (item_puts tag_puts gets : List Bool) (text : Text) → item_puts ≡ g.environment_item_puts → tag_puts ≡ g.environment_tag_puts → gets ≡ g.environment_gets
+      → text ≡ canonical (rowed item_puts tag_puts gets) → text ≡ canonical g
+  spelled item_puts tag_puts gets text one two three is = is ∙ (λ i. canonical (rowed (one i) (two i) (three i)))
 
   -- the text of the tree reads as the graph, and so does its canonical text, unless that is too long
-  pub canonical_reads_back : CanonicalReads → ReadsTextual → IsOfText tree → length (canonical g) ≤ MOST_TEXT → Reads (canonical g) g
-  canonical_reads_back back textual of_text short =
+  reads_back : CanonicalReads → ReadsTextual → IsOfText tree → length (canonical g) ≤ MOST_TEXT → Reads (canonical g) g
+  reads_back back textual of_text short =
       let reads : Reads of_text.0 g = record { short = of_text.1.0; ascii = of_text.1.1; tree = tree; read = of_text.2; no_fault = none; graph = is_its_graph; canonical = short } in
       back g (textual of_text.0 g reads) short
 
-  pub is_kept : Reads (canonical g) g → IsKept inside
-  is_kept reads = record {
-    graph = is_graph;
-    reads = reads;
-    long = sym (length-map prescribes.items (λ (steps : Vec StepCollection Global). map (λ step. step.0) steps.items)) ∙ lists.long;
-    prescribes = λ number those there.
-        let within = slice_get_within prescribes.items number those there in
-        let count = length-map prescribes.items (λ (steps : Vec StepCollection Global). map (λ step. step.0) steps.items) in
-        ap (λ (steps : Vec StepCollection Global). map (λ step. step.0) steps.items) (sym (get_or_from_slice_get prescribes.items number those those there))
-        ∙ sym (get_or-map (λ (steps : Vec StepCollection Global). map (λ step. step.0) steps.items) prescribes.items number those [] within) ∙ lists.each number (omega (arith, lists.long));
-  }
+  pub is_kept : (prescribes : Vec (Vec StepCollection Global) Global) (many : ℕ) → many ≡ length resolved.tags.numbered → ArePrescriptions (map step_seen steps) many (numbers_of prescribes.items)
+      → CanonicalReads → ReadsTextual → IsOfText tree → length (canonical g) ≤ MOST_TEXT
+      → IsKept (record {
+        items = resolved.items.numbered;
+        tags = resolved.tags.numbered;
+        prescribes = prescribes;
+        steps = steps;
+        environment_item_puts = resolved.relations.environment_item_puts;
+        environment_tag_puts = resolved.relations.environment_tag_puts;
+        environment_gets = resolved.relations.environment_gets;
+      })
+  is_kept prescribes many count lists back textual of_text short =
+      let as_many = length-map prescribes.items (λ (steps : Vec StepCollection Global). map (λ step. step.0) steps.items) in record {
+        graph = is_graph;
+        reads = reads_back back textual of_text short;
+        long = sym as_many ∙ lists.long ∙ count;
+        prescribes = λ number those there.
+            let within = slice_get_within prescribes.items number those there in
+            ap (λ (steps : Vec StepCollection Global). map (λ step. step.0) steps.items) (sym (get_or_from_slice_get prescribes.items number those those there))
+            ∙ sym (get_or-map (λ (steps : Vec StepCollection Global). map (λ step. step.0) steps.items) prescribes.items number those [] within) ∙ lists.each number (omega (arith, lists.long));
+      }
 
 pub few_steps : (tree : Tree) (steps : List (Text × Prescribed)) → IsSmall tree → AreCheckedSteps tree tree.steps.items steps → length steps < 2 ^ 16
 few_steps tree steps small checked = omega (arith, as_many (λ step entry. (entry.0 ≡ text_of step.name) × IsCheckedStep tree step entry.1) tree.steps.items steps checked, small.few)
