@@ -1,12 +1,12 @@
 use Rattle.std.proofs.Common.{◌∙◌, inl, inr, length, refl, ap, arith}
-use Rattle.graph.proofs.Sheets.{names_first}
-use Rattle.graph.proofs.FirstFaults.{err_passed_on}
+use Rattle.graph.proofs.FirstFaults.{err_passed_on, in_front}
 use Rattle.graph.proofs.GraphsOfTrees.{all_prescribed, few_steps, so_many_tags, is_kept, is_its_graph, graph_rowed, spelled}
 use Rattle.graph.proofs.build.graph_of.Goals as goal
+use Rattle.graph.specs.Faults.{tree_faults}
 
 pub returns-in_err-resolved-clause-fault : goal.returns-in_err-resolved-clause-fault
 returns-in_err-resolved-clause-fault c =
-    err_passed_on _ c.from_residual.result _ c.from_residual.ensures.1 (elim (names_first c.args.tree.now _ c.in_err-resolved.ensures) [
+    err_passed_on _ c.from_residual.result _ c.from_residual.ensures.1 (elim (in_front (tree_faults c.args.tree.now) _ _ c.in_err-resolved.ensures) [
       | inl memory ↦ inl memory
       | inr first ↦ inr (inl first)
     ])
