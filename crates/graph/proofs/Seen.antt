@@ -15,8 +15,15 @@ use Rattle.std.proofs.lemmas.Simd.{map-map}
 pub items_named : (items : List (Text × ℕ)) → names_numbered items ≡ names_in (map collection_seen items)
 items_named items = sym (map-map (λ collection. collection.name) collection_seen items)
 
-pub steps_named : (steps : List (Text × Prescribed)) → names_numbered steps ≡ names_of_steps (map step_seen steps)
-steps_named steps = sym (map-map (λ step. step.name) step_seen steps)
+-- the names in what is seen of a graph, or of its parts
+pub items_seen : (items : List (Text × ℕ)) (seen g : Graph) → seen.items ≡ map collection_seen items → seen ≡ g → names_numbered items ≡ names_in g.items
+items_seen items seen g is same = items_named items ∙ ap names_in (sym is) ∙ ap (λ (it : Graph). names_in it.items) same
+
+pub tags_seen : (tags : List (Text × ℕ)) (seen g : Graph) → seen.tags ≡ map collection_seen tags → seen ≡ g → names_numbered tags ≡ names_in g.tags
+tags_seen tags seen g is same = items_named tags ∙ ap names_in (sym is) ∙ ap (λ (it : Graph). names_in it.tags) same
+
+pub steps_seen : (steps : List (Text × Prescribed)) (seen g : Graph) → seen.steps ≡ map step_seen steps → seen ≡ g → names_numbered steps ≡ names_of_steps g.steps
+steps_seen steps seen g is same = sym (map-map (λ step. step.name) step_seen steps) ∙ ap names_of_steps (sym is) ∙ ap (λ (it : Graph). names_of_steps it.steps) same
 
 none_of : (tag number : ℕ) (steps : List Step) → ((place : ℕ) (step : Step) → slice_get steps place ≡ Some step → (step.prescriber == tag) ≡ false) → prescribed_from number steps tag ≡ []
 none_of tag number [] other = refl
