@@ -37,6 +37,14 @@ repeated_both before (name ∷ one) two =
     (repeated_both (before ++ text_of name ∷ []) one two ∙ ap (λ (l : List Text). repeated (before ++ text_of name ∷ []) one ++ repeated l two) (append_assoc before (text_of name ∷ []) (texts one)))
     ∙ sym (append_assoc (fault_if (has before name) Redeclared name.place) (repeated (before ++ text_of name ∷ []) one) (repeated (before ++ text_of name ∷ texts one) two))
 
+-- the names of a step: first those of the parameters
+module _ (parameters variables : List Name) where
+  pub first_of_parameters : (fault : PlacedFault) → IsFirst (repeated [] parameters) fault → IsFirst (repeated [] (parameters ++ variables)) fault
+  first_of_parameters fault first = subst (λ (l : List At). IsFirst l fault) (sym (repeated_both [] parameters variables)) (in_front (repeated [] parameters) _ fault first)
+
+  pub of_variables : repeated [] parameters ≡ [] → repeated [] (parameters ++ variables) ≡ repeated (texts parameters) variables
+  of_variables none = repeated_both [] parameters variables ∙ empty_in_front (repeated [] parameters) _ none
+
 module _ (before : List Text) (more : List Name) where
   pub record AddedSoFar (index : ℕ) (names : List Text) : Type 0 where
     pub added : names ≡ before ++ texts (take index more)
@@ -81,9 +89,9 @@ is_found : (numbered : List (Text × ℕ)) (text : Text) → is_some (found numb
 is_found [] text = refl
 is_found (entry ∷ numbered) text = grind (arith, is_found numbered text)
 
-pub new_name : (numbered : List (Text × ℕ)) (names : List Text) (name : Text) → ArePlaces numbered names → ArePlaces (numbered ++ (name, length names) ∷ []) (names ++ name ∷ [])
-new_name numbered names name are = λ text.
-    found_both numbered name (length names) text ∙ ap (λ (p : Option ℕ). either_place p (if is_text name text then Some (length names) else None)) (are text) ∙ sym (place_of_both names name text)
+pub new_name : (numbered : List (Text × ℕ)) (names : List Text) (name : Text) (number : ℕ) → length names ≡ number → ArePlaces numbered names → ArePlaces (numbered ++ (name, number) ∷ []) (names ++ name ∷ [])
+new_name numbered names name number many are = λ text.
+    found_both numbered name number text ∙ (λ i. either_place (are text i) (if is_text name text then Some (sym many i) else None)) ∙ sym (place_of_both names name text)
 
 pub old_name : (numbered : List (Text × ℕ)) (names : List Text) (name : Text) → is_some (place_of (names_numbered numbered) name) ≡ true → ArePlaces numbered names → ArePlaces numbered (names ++ name ∷ [])
 old_name numbered names name there are = λ text. are text ∙ sym (place_of_both names name text ∙ kept text)

@@ -52,11 +52,21 @@ module _ {K V : Type 0} (text : K → Text) where
   names_seen [] = refl
   names_seen (entry ∷ entries) = ap (λ names. text entry.0 ∷ names) (names_seen entries)
 
+  -- the position at which the bytes are found is the number of the name
+  pub position_of_name : (entries : List (K × V)) (name : Text) → position (λ key. bytes_eq name (text key)) (keys_of entries) ≡ place_of (names_numbered (seen entries)) name
+  position_of_name entries name = position_is_place text name (keys_of entries) ∙ ap (λ (names : List Text). place_of names name) (sym (names_seen entries))
+
   -- the name of the entry with a number
-  pub name_there : (entries : List (K × V)) (number : ℕ) → slice_get (names_numbered (seen entries)) number ≡ option_map (λ entry. text entry.0) (slice_get entries number)
+  name_there : (entries : List (K × V)) (number : ℕ) → slice_get (names_numbered (seen entries)) number ≡ option_map (λ entry. text entry.0) (slice_get entries number)
   name_there [] number = refl
   name_there (entry ∷ entries) zero = refl
   name_there (entry ∷ entries) (suc number) = name_there entries number
+
+  pub name_of_entry : (entries : List (K × V)) (number : ℕ) (entry : K × V) → Some entry ≡ slice_get entries number → Some (text entry.0) ≡ slice_get (names_numbered (seen entries)) number
+  name_of_entry entries number entry there = ap (option_map (λ entry. text entry.0)) there ∙ sym (name_there entries number)
+
+  pub no_name : (entries : List (K × V)) (number : ℕ) → None ≡ slice_get entries number → None ≡ slice_get (names_numbered (seen entries)) number
+  no_name entries number none = ap (option_map (λ entry. text entry.0)) none ∙ sym (name_there entries number)
 
   -- an entry with a number has a name that no other entry has
   pub once : (entries : List (K × V)) (number : ℕ) (entry : K × V) → IsDistinct (λ one two. bytes_eq (text one) (text two)) (keys_of entries) → slice_get entries number ≡ Some entry
