@@ -1,5 +1,5 @@
 -- The read block and the write block of a step, as they are printed.
-use Rattle.std.proofs.Common.{◌≡◌, ℕ, ◌<◌, ◌≤◌, Bool, List, [], length, get_or, Some, ap, arith, suc, ◌+◌, ◌∷◌, ◌++◌, codes, refl, subst, append_assoc, map, ◌∙◌}
+use Rattle.std.proofs.Common.{◌≡◌, ℕ, ◌<◌, ◌≤◌, Bool, List, [], length, get_or, Some, ap, arith, suc, ◌+◌, ◌++◌, codes, refl, append_assoc, map, ◌∙◌, ◌∷◌}
 use Rattle.std.proofs.lemmas.List.{length-map}
 use Rattle.std.proofs.lemmas.Option.{slice_get_within, get_or_from_slice_get}
 use Rattle.terms.specs.declared.key.TheConstants.{MAX_COMPONENTS}
@@ -8,20 +8,20 @@ use Rattle.steptree.specs.Sheet.{IsAllowed, KeepsTo}
 use Rattle.steptree.specs.Nameable.{Collection, Nameable}
 use Rattle.steptree.specs.Limits.{AreFew}
 use Rattle.graph.specs.Textual.{IsGraphName, AreNames, IsTextExpression, AreComponents, IsReadBlock, IsWriteBlock}
-use Rattle.graph.proofs.PrintedTokens.{found_at, never, Printed, behind, and, nothing, printed_name, no_name_limit, no_more_limit, inside, lined, word_first, semicolon, close_brace, open_brace, equals, dots, among, otherwise}
+use Rattle.graph.proofs.PrintedTokens.{found_at, never, Printed, behind, and, nothing, printed_name, no_name_limit, no_more_limit, inside, lined, word_first, semicolon, close_brace, open_brace, equals, dots, among, otherwise, in_order}
 use Rattle.graph.proofs.Lists.{each_at, no_both}
 use Rattle.steptree.specs.Tree.{Expression, Block, End, Assign, If, For, NamedBlock, Get, PutItem, PutTag}
 use Rattle.steptree.specs.Resolved.{IsBlock}
 use Rattle.syntax.specs.declared.limits.TheConstants.{MOST_BRACES}
 use Rattle.syntax.specs.declared.token.Word.TheVariants as kept
 use Rattle.syntax.specs.declared.token.Symbol.TheVariants as sign
-use Rattle.syntax.specs.Tokens.{name, symbol, word}
+use Rattle.syntax.specs.Tokens.{name}
 use Rattle.syntax.specs.Grammar.{Position, sum_alone, prod_alone, unary_alone, Expr, assigned, if_else, for, Statements, no_more, and_then, own, put_item, put_tag}
-use Rattle.syntax.specs.Spelled.{Piece, plain, at, a_sign, a_word, expr_pieces, condition_pieces, statements_pieces, get_pieces, put_pieces}
+use Rattle.syntax.specs.Spelled.{Piece, statements_pieces, get_pieces, put_pieces, condition_pieces, at, expr_pieces, a_sign, a_word}
 use Rattle.syntax.specs.Limits.{statements_limits, get_limits, put_limits}
 use Rattle.syntax.specs.Tree.{AreStatements, IsGet, IsPut}
 use Rattle.graph.specs.Graph.{Graph, Step, sheet_of}
-use Rattle.graph.specs.Canonical.{in_rounds, expression_text, block_text, line, assignment_line, condition_line, range_line, item_text, tag_text, get_line, put_item_line, put_tag_line}
+use Rattle.graph.specs.Canonical.{in_rounds, expression_text, block_text, line, assignment_line, condition_line, range_line, item_text, get_line, put_item_line, put_tag_line}
 use Rattle.graph.proofs.PrintedExpressions.{rounded_anywhere, expression_printed, no_limits, key_printed, bracketed_key, angled_key, key_fronts}
 use Rattle.graph.proofs.PrintedValues.{name_of}
 use Rattle.terms.specs.declared.name.ItemCollection.{ItemCollection}
@@ -49,13 +49,13 @@ known collections are names allowed index components is =
     }
 
 -- what is inside braces, with the braces belonging to the lines around it
-in_order : (front inner rest : List Piece) (begin end : Piece) → front ++ (begin ∷ []) ++ inner ++ (end ∷ []) ++ rest ≡ front ++ (begin ∷ (inner ++ (end ∷ []))) ++ rest
-in_order front inner rest begin end = simp append_assoc
+one_inside : (front inner rest : List Piece) (begin end : Piece) → front ++ (begin ∷ []) ++ inner ++ (end ∷ []) ++ rest ≡ front ++ (begin ∷ (inner ++ (end ∷ []))) ++ rest
+one_inside front inner rest begin end = simp append_assoc
 
-both_in_order : (front first second rest : List Piece) (begin end other_word other_open other_close : Piece)
+two_inside : (front first second rest : List Piece) (begin end other_word other_open other_close : Piece)
     → front ++ (begin ∷ []) ++ first ++ (end ∷ other_word ∷ other_open ∷ []) ++ second ++ (other_close ∷ []) ++ rest
     ≡ front ++ (begin ∷ (first ++ (end ∷ []))) ++ (other_word ∷ []) ++ (other_open ∷ (second ++ (other_close ∷ []))) ++ rest
-both_in_order front first second rest begin end other_word other_open other_close = simp append_assoc
+two_inside front first second rest begin end other_word other_open other_close = simp append_assoc
 
 module _ {B : Type 0} (own_pieces : B → List Piece) (own_limits : B → List Position) (IsOwn : B → NamedBlock → (NamedBlock → Type 0) → Type 0) (g : Graph) (names : List Text) (sheet : Nameable) where
   -- what is known of a printed block inside `around` braces
@@ -75,16 +75,13 @@ module _ {B : Type 0} (own_pieces : B → List Piece) (own_limits : B → List P
     pub assign_printed : (level around place slot : ℕ) (value : Expression) (rest : Block) → slot < length names → IsTextExpression (length names) value
         → BlockPrinted level around (place + length (assignment_line g names level slot value)) rest → BlockPrinted level around place (Assign slot value rest)
     assign_printed level around place slot value rest within is later =
-        let start : ℕ = inside level place in
         let variable : Text = get_or names slot [] in
         let good : IsGraphName variable = each_at IsGraphName names slot [] within are.each in
-        let it = expression_printed g names are value (start + length (variable ++ codes " = ")) is.0 in
-        let head = behind (printed_name start variable good) (equals (start + length variable)) (λ more may. refl) in
-        let all = behind (and head it.printed) (semicolon (start + length (variable ++ codes " = " ++ expression_text g names value))) (λ more may. refl) in record {
-          statements = and_then (assigned (variable, start) (sum_alone (prod_alone (unary_alone it.unary)))) later.statements;
-          printed = and (lined level place all) later.printed;
-          limits = no_both _ _ (no_both _ _ (no_name_limit variable start good) (no_limits it is.1)) later.limits;
-          value = Assign (name_of (variable, start)) it.value later.value;
+        let it = expression_printed g names are value (inside level place + length (variable ++ codes " = ")) is.0 in record {
+          statements = and_then (assigned (variable, inside level place) (sum_alone (prod_alone (unary_alone it.unary)))) later.statements;
+          printed = and (lined level place (behind (and (behind (printed_name _ variable good) (equals _) (λ more may. refl)) it.printed) (semicolon _) (λ more may. refl))) later.printed;
+          limits = no_both _ _ (no_both _ _ (no_name_limit variable _ good) (no_limits it is.1)) later.limits;
+          value = Assign (name_of (variable, _)) it.value later.value;
           is = ((refl, refl), it.is, later.is);
           resolves = (found_at names slot are.distinct within, it.resolves, later.resolves);
         }
@@ -105,18 +102,14 @@ module _ {B : Type 0} (own_pieces : B → List Piece) (own_limits : B → List P
     if_printed level around place condition first second rest is few one two later =
         let start : ℕ = inside level place in
         let it = expression_printed g names are condition (start + 3 + 1) is.0 in
-        let brace : ℕ = start + length (codes "if " ++ in_rounds (expression_text g names condition)) in
-        let middle : ℕ = inside level (place + length (if_front level condition first)) in
-        let other : ℕ = middle + 1 + 1 + 4 + 1 in
         let expr : Expr = sum_alone (prod_alone (unary_alone it.unary)) in
+        let brace : ℕ = start + length (codes "if " ++ in_rounds (expression_text g names condition)) in
+        let other : ℕ = inside level (place + length (if_front level condition first)) + 1 + 1 + 4 + 1 in
         let head = lined level place (and (and (word_first start kept.If) (rounded_anywhere it.printed)) (open_brace brace)) in
-        let front = and (and head one.printed) (lined level (place + length (if_front level condition first)) (otherwise middle)) in
-        let end = lined level (place + length (if_middle level condition first second)) (close_brace (inside level (place + length (if_middle level condition first second)))) in
-        let all = and (and (and front two.printed) end) later.printed in record {
+        let front = and (and head one.printed) (lined level (place + length (if_front level condition first)) (otherwise _)) in record {
           statements = and_then (if_else expr (brace + 1) one.statements other two.statements) later.statements;
-          printed = subst (λ (p : List Piece). Printed never place (block_text g names level (If condition first second rest)) p)
-              (both_in_order (condition_pieces expr) (statements_pieces own_pieces one.statements) (statements_pieces own_pieces two.statements) (statements_pieces own_pieces later.statements)
-              (at (brace + 1) (symbol sign.OpenBrace)) (plain (symbol sign.CloseBrace)) (plain (word kept.Else)) (at other (symbol sign.OpenBrace)) (plain (symbol sign.CloseBrace))) all;
+          printed = in_order (two_inside (condition_pieces expr) (statements_pieces own_pieces one.statements) (statements_pieces own_pieces two.statements) (statements_pieces own_pieces later.statements) _ _ _ _ _)
+              (and (and (and front two.printed) (lined level _ (close_brace _))) later.printed);
           limits = no_both _ _ (no_both _ _ (no_both _ _ (no_both _ _ (no_both _ _ (no_limits it is.1) (no_more_limit MOST_BRACES around (brace + 1) few)) one.limits) (no_more_limit MOST_BRACES around other few)) two.limits) later.limits;
           value = If it.value one.value two.value later.value;
           is = (it.is, one.is, two.is, later.is);
@@ -136,22 +129,16 @@ module _ {B : Type 0} (own_pieces : B → List Piece) (own_limits : B → List P
         let start : ℕ = inside level place in
         let variable : Text = get_or names slot [] in
         let good : IsGraphName variable = each_at IsGraphName names slot [] within are.each in
-        let first : ℕ = start + length (codes "for " ++ variable ++ codes " in ") in
-        let it = expression_printed g names are from first is.0 in
-        let second : ℕ = start + length (codes "for " ++ variable ++ codes " in " ++ expression_text g names from ++ codes " .. ") in
-        let it2 = expression_printed g names are to second is2.0 in
+        let it = expression_printed g names are from (start + length (codes "for " ++ variable ++ codes " in ")) is.0 in
+        let it2 = expression_printed g names are to (start + length (codes "for " ++ variable ++ codes " in " ++ expression_text g names from ++ codes " .. ")) is2.0 in
         let brace : ℕ = start + length (for_text slot from to) in
         let low : Expr = sum_alone (prod_alone (unary_alone it.unary)) in
         let high : Expr = sum_alone (prod_alone (unary_alone it2.unary)) in
-        let named_variable = behind (and (word_first start kept.For) (printed_name (start + 4) variable good)) (among (start + length (codes "for " ++ variable))) (λ more may. refl) in
-        let lower = behind (and named_variable it.printed) (dots (start + length (codes "for " ++ variable ++ codes " in " ++ expression_text g names from))) (λ more may. refl) in
-        let head = lined level place (behind (and lower it2.printed) (open_brace brace) (λ more may. refl)) in
-        let end = lined level (place + length (range_line g names level slot from to ++ block_text g names (suc level) block)) (close_brace (inside level (place + length (range_line g names level slot from to ++ block_text g names (suc level) block)))) in
-        let all = and (and (and head one.printed) end) later.printed in record {
+        let head = behind (and (word_first start kept.For) (printed_name _ variable good)) (among _) (λ more may. refl) in
+        let bounds = behind (and (behind (and head it.printed) (dots _) (λ more may. refl)) it2.printed) (open_brace brace) (λ more may. refl) in record {
           statements = and_then (for (variable, start + 4) low high (brace + 1) one.statements) later.statements;
-          printed = subst (λ (p : List Piece). Printed never place (block_text g names level (For slot from to block rest)) p)
-              (in_order (a_word kept.For ++ (at (start + 4) (name variable) ∷ a_word kept.In) ++ expr_pieces low ++ a_sign sign.DoubleDot ++ expr_pieces high) (statements_pieces own_pieces one.statements)
-              (statements_pieces own_pieces later.statements) (at (brace + 1) (symbol sign.OpenBrace)) (plain (symbol sign.CloseBrace))) all;
+          printed = in_order (one_inside (a_word kept.For ++ (at (start + 4) (name variable) ∷ a_word kept.In) ++ expr_pieces low ++ a_sign sign.DoubleDot ++ expr_pieces high) (statements_pieces own_pieces one.statements)
+              (statements_pieces own_pieces later.statements) _ _) (and (and (and (lined level place bounds) one.printed) (lined level _ (close_brace _))) later.printed);
           limits = no_both _ _ (no_both _ _ (no_both _ _ (no_both _ _ (no_both _ _ (no_name_limit variable (start + 4) good) (no_limits it is.1)) (no_limits it2 is2.1)) (no_more_limit MOST_BRACES around (brace + 1) few)) one.limits) later.limits;
           value = For (name_of (variable, start + 4)) it.value it2.value one.value later.value;
           is = ((refl, refl), it.is, it2.is, one.is, later.is);
@@ -177,12 +164,10 @@ module _ (g : Graph) (step : Step) (names : List Text) (are : AreNames names)
       let start : ℕ = inside level place in
       let variable : Text = get_or names slot [] in
       let good : IsGraphName variable = each_at IsGraphName names slot [] within are.each in
-      let there : ℕ = start + length (codes "get " ++ variable ++ codes " = ") in
-      let it = key_printed g names are (get_or (names_in g.items) collection.0 []) is.name components (there + 1) is.few all in
-      let head = behind (and (word_first start kept.Get) (printed_name (start + 4) variable good)) (equals (start + length (codes "get " ++ variable))) (λ more may. refl) in
-      let line_printed = lined level place (and (and head (bracketed_key it.key it.printed)) (semicolon (start + length (codes "get " ++ variable ++ codes " = " ++ item_text g names collection.0 components)))) in record {
+      let it = key_printed g names are (get_or (names_in g.items) collection.0 []) is.name components (start + length (codes "get " ++ variable ++ codes " = ") + 1) is.few all in
+      let head = behind (and (word_first start kept.Get) (printed_name _ variable good)) (equals _) (λ more may. refl) in record {
         statements = and_then (own (record { variable = (variable, start + 4); item = it.key })) later.statements;
-        printed = and line_printed later.printed;
+        printed = and (lined level place (and (and head (bracketed_key it.key it.printed)) (semicolon _))) later.printed;
         limits = no_both _ _ (no_both _ _ (no_name_limit variable (start + 4) good) it.limits) later.limits;
         value = Get (name_of (variable, start + 4)) it.name it.parts later.value;
         is = ((refl, refl), it.is, later.is);
@@ -195,13 +180,10 @@ module _ (g : Graph) (step : Step) (names : List Text) (are : AreNames names)
   item_put_printed level around place collection components value rest all value_is is later =
       let start : ℕ = inside level place in
       let it = key_printed g names are (get_or (names_in g.items) collection.0 []) is.name components (start + 4 + 1) is.few all in
-      let there : ℕ = start + length (codes "put " ++ item_text g names collection.0 components ++ codes " = ") in
-      let it2 = expression_printed g names are value there value_is.0 in
-      let head = and (and (word_first start kept.Put) (bracketed_key it.key it.printed)) (equals (start + length (codes "put " ++ item_text g names collection.0 components))) in
-      let end = semicolon (start + length (codes "put " ++ item_text g names collection.0 components ++ codes " = " ++ expression_text g names value)) in
-      let line_printed = lined level place (behind (and head it2.printed) end (λ more may. refl)) in record {
+      let it2 = expression_printed g names are value (start + length (codes "put " ++ item_text g names collection.0 components ++ codes " = ")) value_is.0 in
+      let head = and (and (word_first start kept.Put) (bracketed_key it.key it.printed)) (equals _) in record {
         statements = and_then (own (put_item it.key (sum_alone (prod_alone (unary_alone it2.unary))))) later.statements;
-        printed = and line_printed later.printed;
+        printed = and (lined level place (behind (and head it2.printed) (semicolon _) (λ more may. refl))) later.printed;
         limits = no_both _ _ (no_both _ _ it.limits (no_limits it2 value_is.1)) later.limits;
         value = PutItem it.name it.parts it2.value later.value;
         is = (it.is, it2.is, later.is);
@@ -212,14 +194,11 @@ module _ (g : Graph) (step : Step) (names : List Text) (are : AreNames names)
       → AreComponents (length names) components → Known g.tags collection.0 (length components)
       → WritePrinted level around (place + length (put_tag_line g names level collection.0 components)) rest → WritePrinted level around place (PutTag collection components rest)
   tag_put_printed level around place collection components rest all is later =
-      let start : ℕ = inside level place in
       let tag : Text = get_or (names_in g.tags) collection.0 [] in
-      let it = key_printed g names are tag is.name components (start + 4 + 1) is.few all in
-      let tag_printed = angled_key it.key (key_fronts tag (map (expression_text g names) components) is.name) it.printed in
-      let end = semicolon (start + length (codes "put " ++ tag_text g names collection.0 components)) in
-      let line_printed = lined level place (behind (and (word_first start kept.Put) tag_printed) end (λ more may. refl)) in record {
+      let it = key_printed g names are tag is.name components (inside level place + 4 + 1) is.few all in
+      let tag_printed = angled_key it.key (key_fronts tag (map (expression_text g names) components) is.name) it.printed in record {
         statements = and_then (own (put_tag it.key)) later.statements;
-        printed = and line_printed later.printed;
+        printed = and (lined level place (behind (and (word_first _ kept.Put) tag_printed) (semicolon _) (λ more may. refl))) later.printed;
         limits = no_both _ _ it.limits later.limits;
         value = PutTag it.name it.parts later.value;
         is = (it.is, later.is);

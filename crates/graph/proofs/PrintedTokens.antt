@@ -79,6 +79,10 @@ and {other} {place} {a} {b} one two = behind one two (λ rest may. anything (b +
 pub narrowed : {stop other : ℕ → Bool} {place : ℕ} {a : List ℕ} {p : List Piece} → ((rest : List ℕ) → BeginsWithout other rest → BeginsWithout stop rest) → Printed stop place a p → Printed other place a p
 narrowed border one = record { spots = one.spots; lexes = λ rest more may next. one.lexes rest more (border rest may) next; are = one.are; ascii = one.ascii }
 
+-- the same pieces in another form
+pub in_order : {stop : ℕ → Bool} {place : ℕ} {a : List ℕ} {p q : List Piece} → p ≡ q → Printed stop place a p → Printed stop place a q
+in_order {stop} {place} {a} same one = subst (λ (p : List Piece). Printed stop place a p) same one
+
 -- the tokens of a whole text
 pub whole : {stop : ℕ → Bool} {text : List ℕ} {pieces : List Piece} → (text ++ [] ≡ text) → (one : Printed stop 0 text pieces) → (one.spots ++ [] ≡ one.spots) → AreTokens 0 text one.spots
 whole {stop} {text} same one same_spots =
