@@ -255,7 +255,7 @@ declarations_within _ _ _ _ _ _ _ all _ = absurd (assumption)
 
 -- ---- faults
 
-not_there : (before : List Text) (text : Text) (place : ℕ) → AllByRecursion (λ other. is_text text other ≡ false) before → fault_if (has before (name_of (text, place))) Redeclared place ≡ []
+pub not_there : (before : List Text) (text : Text) (place : ℕ) → AllByRecursion (λ other. is_text text other ≡ false) before → fault_if (has before (name_of (text, place))) Redeclared place ≡ []
 not_there before text place all = ap (λ (o : Option ℕ). fault_if (is_some o) Redeclared place) (nowhere before text all)
 
 -- one more name in front of names that differ

@@ -13,20 +13,20 @@ use Rattle.steptree.specs.Sheet.{BodyKeepsTo}
 use Rattle.steptree.specs.Limits.{AreFew}
 use Rattle.syntax.specs.declared.token.Word.TheVariants as kept
 use Rattle.syntax.specs.declared.token.Symbol.TheVariants as sign
-use Rattle.syntax.specs.Tokens.{symbol, word}
+use Rattle.syntax.specs.Tokens.{word_text}
 use Rattle.syntax.specs.Grammar.{Named, StepText}
-use Rattle.syntax.specs.Spelled.{Piece, plain, named, a_sign, a_word, parameters_pieces, variables_pieces, get_pieces, put_pieces, statements_pieces, step_pieces}
+use Rattle.syntax.specs.Spelled.{Piece, named, a_sign, a_word, parameters_pieces, variables_pieces, get_pieces, put_pieces, statements_pieces, step_pieces}
 use Rattle.syntax.specs.Limits.{all_names, step_limits, steps_limits}
 use Rattle.syntax.specs.Tree.{AreAll, IsStep}
-use Rattle.graph.specs.declared.fault.GraphError.TheVariants.{Redeclared, StepTwice}
+use Rattle.graph.specs.declared.fault.GraphError.TheVariants.{StepTwice}
 use Rattle.graph.specs.Graph.{Graph, Step, sheet_of, IsOfGraph}
 use Rattle.graph.specs.Tree.{text_of, step_names, is_read, is_item_put, is_tag_put, each_of, prescriber_of}
 use Rattle.graph.specs.Faults.{At, fault_if, has, repeated, or_else, components_of, arity_faults, step_faults}
 use Rattle.graph.specs.Textual.{IsGraphName, AreNames, IsTextStep}
 use Rattle.graph.specs.Canonical.{in_rounds, joined, line, variables_line, block_text, step_text}
-use Rattle.graph.proofs.PrintedTokens.{never, Printed, behind, and, printed_name, no_name_limit, inside, lined, word_first, close_brace, plain_brace, a_word_alone, no_more_limit}
+use Rattle.graph.proofs.PrintedTokens.{never, Printed, behind, and, printed_name, no_name_limit, lined, word_first, close_brace, plain_brace, a_word_alone, no_more_limit, in_order}
 use Rattle.graph.proofs.PrintedExpressions.{rounded_anywhere, OnePrinted}
-use Rattle.graph.proofs.PrintedDeclarations.{Bears, no_limits_of, none_behind, texts_of, names_of_all, parameters_printed, variables_printed, one_before}
+use Rattle.graph.proofs.PrintedDeclarations.{Bears, no_limits_of, none_behind, texts_of, names_of_all, parameters_printed, variables_printed, one_before, not_there}
 use Rattle.graph.proofs.PrintedBlocks.{known, read_printed, write_printed, many_names}
 use Rattle.graph.proofs.PrintedApart.{Apart, Clear, apart, nowhere, take_each, flipped}
 use Rattle.graph.proofs.PrintedValues.{vec_of, name_of}
@@ -38,27 +38,20 @@ use Rattle.steptree.specs.Nameable.{Collection}
 use Rattle.syntax.specs.declared.tree.Relation.{Relation as Related}
 use Rattle.graph.specs.Prescribed.{names_of_steps}
 use Rattle.graph.proofs.Texts.{itself}
+use Rattle.std.proofs.lemmas.Simd.{map-map}
+use Rattle.syntax.specs.declared.token.Word.{Word}
 
 -- ---- names of a step
 
-texts_named : (those : List Named) → map (λ (it : Name). it.text.now) (map name_of those) ≡ map (λ (it : Named). it.0) those
-texts_named [] = refl
-texts_named (it ∷ those) = ap (λ (l : List Text). it.0 ∷ l) (texts_named those)
-
 both_named : (one two : List Named) (texts : List Text) → AreAll Bears texts (one ++ two) → map (λ (it : Name). it.text.now) (map name_of one ++ map name_of two) ≡ texts
 both_named one two texts all =
-    ap (λ (l : List Name). map (λ (it : Name). it.text.now) l) (sym (map-append name_of one two)) ∙ texts_named (one ++ two) ∙ texts_of texts (one ++ two) all
+    ap (λ (l : List Name). map (λ (it : Name). it.text.now) l) (sym (map-append name_of one two)) ∙ map-map (λ (it : Name). it.text.now) name_of (one ++ two) ∙ texts_of texts (one ++ two) all
 
-not_repeated : (before texts : List Text) (those : List Named) → AreAll Bears texts those → Apart is_text texts → Clear is_text before texts → repeated before (map name_of those) ≡ []
-not_repeated before [] [] all apart clear = refl
-not_repeated before (text ∷ texts) (it ∷ those) all apart clear =
-    let here : AllByRecursion (λ other. is_text it.0 other ≡ false) before = subst (λ (t : Text). AllByRecursion (λ other. is_text t other ≡ false) before) (sym all.0.same) clear.0 in
-    let first : fault_if (has before (name_of it)) Redeclared it.1 ≡ [] = ap (λ (o : Option ℕ). fault_if (is_some o) Redeclared it.1) (nowhere before it.0 here) in
-    let same : before ++ it.0 ∷ [] ≡ before ++ text ∷ [] = ap (λ (t : Text). before ++ t ∷ []) all.0.same in
-    let more : repeated (before ++ it.0 ∷ []) (map name_of those) ≡ [] =
-    ap (λ (l : List Text). repeated l (map name_of those)) same ∙ not_repeated (before ++ text ∷ []) texts those all.1 apart.1 (one_before before text texts clear.1 apart.0) in
-    ap (λ (l : List At). l ++ repeated (before ++ it.0 ∷ []) (map name_of those)) first ∙ more
-not_repeated _ _ _ all _ _ = absurd (assumption)
+not_repeated : (before : List Text) (those : List Named) → Apart is_text (map (λ (it : Named). it.0) those) → Clear is_text before (map (λ (it : Named). it.0) those) → repeated before (map name_of those) ≡ []
+not_repeated before [] apart clear = refl
+not_repeated before (it ∷ those) apart clear =
+    no_both _ _ (not_there before it.0 it.1 clear.0)
+    (not_repeated (before ++ it.0 ∷ []) those apart.1 (one_before before it.0 (map (λ (it : Named). it.0) those) clear.1 apart.0))
 
 drop_each : (P : Text → Type 0) (count : ℕ) (texts : List Text) → AllByRecursion P texts → AllByRecursion P (drop count texts)
 drop_each P zero texts all = all
@@ -67,16 +60,13 @@ drop_each P (suc count) (text ∷ texts) all = drop_each P count texts all.1
 
 -- ---- the pieces of a step in their order
 
-in_order : (head variables read write : List Piece) (a b c d e f g h : Piece)
+step_pieces_in_order : (head variables read write : List Piece) (a b c d e f g h : Piece)
     → head ++ (a ∷ []) ++ variables ++ (b ∷ c ∷ []) ++ read ++ (d ∷ []) ++ (e ∷ f ∷ []) ++ write ++ (g ∷ []) ++ (h ∷ [])
     ≡ head ++ (a ∷ (variables ++ (b ∷ []) ++ (c ∷ (read ++ (d ∷ []))) ++ (e ∷ []) ++ (f ∷ (write ++ (g ∷ []))) ++ (h ∷ [])))
-in_order head variables read write a b c d e f g h = simp append_assoc
+step_pieces_in_order head variables read write a b c d e f g h = simp append_assoc
 
-opened : (place : ℕ) → Printed never place (codes "read {") (a_word kept.Read ++ a_sign sign.OpenBrace)
-opened place = behind (a_word_alone place kept.Read) (plain_brace (place + 4)) (λ rest may. refl)
-
-opened_write : (place : ℕ) → Printed never place (codes "write {") (a_word kept.Write ++ a_sign sign.OpenBrace)
-opened_write place = behind (a_word_alone place kept.Write) (plain_brace (place + 5)) (λ rest may. refl)
+opening : (place : ℕ) (it : Word) → Printed never place (word_text it ++ codes " {") (a_word it ++ a_sign sign.OpenBrace)
+opening place it = behind (a_word_alone place it) (plain_brace _) (λ rest may. refl)
 
 -- ---- a step
 
@@ -109,23 +99,13 @@ module _ (g : Graph) (items : AreFew g.items) (tags : AreFew g.tags) (item_names
       let locals : List Text = drop step.parameters step.names in
       let head : Text = codes "step " ++ step.name in
       let line0 : Text = line 0 (head ++ in_rounds (joined inputs) ++ codes " {") in
-      let text1 : Text = line0 ++ variables_line locals in
-      let text2 : Text = text1 ++ line 1 (codes "read {") in
-      let text3 : Text = text2 ++ block_text g step.names 2 step.body.read in
-      let text4 : Text = text3 ++ line 1 (codes "}") in
-      let text5 : Text = text4 ++ line 1 (codes "write {") in
-      let text6 : Text = text5 ++ block_text g step.names 2 step.body.write in
-      let text7 : Text = text6 ++ line 1 (codes "}") in
+      let text2 : Text = line0 ++ variables_line locals ++ line 1 (codes "read {") in
+      let text5 : Text = text2 ++ block_text g step.names 2 step.body.read ++ line 1 (codes "}") ++ line 1 (codes "write {") in
       let parameters = parameters_printed inputs (place + length head + 1) (take_each IsGraphName step.parameters step.names good.textual.names.each) in
       let variables = variables_printed locals (place + length line0) (drop_each IsGraphName step.parameters step.names good.textual.names.each) in
       let read = read_printed g step step.names good.textual.names (known g.items items item_names) (known g.tags tags tag_names) step.body.read 2 0 (place + length text2) good.textual.read good.of_graph.keeps.0 in
       let write = write_printed g step step.names good.textual.names (known g.items items item_names) (known g.tags tags tag_names) step.body.write 2 0 (place + length text5) good.textual.write good.of_graph.keeps.1 in
       let title = behind (and (word_first place kept.Step) (printed_name (place + 5) step.name good.textual.name)) (rounded_anywhere parameters.printed) (λ rest may. refl) in
-      let first = lined 0 place (and title (plain_brace (place + length (head ++ in_rounds (joined inputs))))) in
-      let upto3 = and (and (and first variables.printed) (lined 1 (place + length text1) (opened (inside 1 (place + length text1))))) read.printed in
-      let upto5 = and (and upto3 (lined 1 (place + length text3) (close_brace (inside 1 (place + length text3))))) (lined 1 (place + length text4) (opened_write (inside 1 (place + length text4)))) in
-      let upto7 = and (and upto5 write.printed) (lined 1 (place + length text6) (close_brace (inside 1 (place + length text6)))) in
-      let all = and upto7 (lined 0 (place + length text7) (close_brace (place + length text7))) in
       let text : StepText = record { name = (step.name, place + 5); parameters = parameters.names; variables = variables.names; read = read.statements; write = write.statements } in
       let one : List Named = all_names parameters.names in
       let two : List Named = all_names variables.names in
@@ -134,23 +114,21 @@ module _ (g : Graph) (items : AreFew g.items) (tags : AreFew g.tags) (item_names
       let many : length (one ++ two) ≡ length step.names = (as_many Bears step.names (one ++ two) bear) in
       let few : length one ≡ step.parameters = (as_many Bears inputs one parameters.related) ∙ length-take-le step.parameters step.names good.of_graph.parameters in
       let named_all : map (λ (it : Name). it.text.now) (map name_of one ++ map name_of two) ≡ step.names = both_named one two step.names bear in
-      let many_one : length (map name_of one) ≡ length one = length-map one name_of in
-      let many_two : length (map name_of two) ≡ length two = length-map two name_of in
-      let sum : length (one ++ two) ≡ length one + length two = length-append one two in
       let no_names = no_both _ _ (no_both _ _ (no_both _ _ (no_name_limit step.name (place + 5) good.textual.name) (no_limits_of step.names (one ++ two) bear))
       (none_behind MAX_COMPONENTS one (omega (arith, few, good.textual.few)))) (none_behind MOST_NAMES (one ++ two) (omega (arith, many, good.of_graph.names))) in
       let value : NamedStep = record {
         name = name_of (step.name, place + 5);
-        parameters = vec_of (map name_of one) (omega (arith, many_one, few, good.textual.few));
-        variables = vec_of (map name_of two) (omega (arith, many_two, many, sum, good.of_graph.names));
+        parameters = vec_of (map name_of one) (omega (arith, length-map one name_of, few, good.textual.few));
+        variables = vec_of (map name_of two) (omega (arith, length-map two name_of, many, length-append one two, good.of_graph.names));
         read = read.value;
         write = write.value;
       } in record {
         derived = text;
-        printed = subst (λ (p : List Piece). Printed never place (step_text g step) p)
-            (in_order (a_word kept.Step ++ named (step.name, place + 5) ∷ a_sign sign.OpenRound ++ parameters_pieces parameters.names ++ a_sign sign.CloseRound) (variables_pieces variables.names) (statements_pieces get_pieces read.statements)
-            (statements_pieces put_pieces write.statements) (plain (symbol sign.OpenBrace)) (plain (word kept.Read)) (plain (symbol sign.OpenBrace)) (plain (symbol sign.CloseBrace)) (plain (word kept.Write)) (plain (symbol sign.OpenBrace))
-            (plain (symbol sign.CloseBrace)) (plain (symbol sign.CloseBrace))) all;
+        printed = in_order
+            (step_pieces_in_order (a_word kept.Step ++ named (step.name, place + 5) ∷ a_sign sign.OpenRound ++ parameters_pieces parameters.names ++ a_sign sign.CloseRound) (variables_pieces variables.names)
+            (statements_pieces get_pieces read.statements) (statements_pieces put_pieces write.statements) _ _ _ _ _ _ _ _)
+            (and (and (and (and (and (and (and (and (lined 0 place (and title (plain_brace _))) variables.printed) (lined 1 _ (opening _ kept.Read))) read.printed) (lined 1 _ (close_brace _)))
+            (lined 1 _ (opening _ kept.Write))) write.printed) (lined 1 _ (close_brace _))) (lined 0 _ (close_brace _)));
         related = record {
           limits = no_both _ _ (no_both _ _ no_names read.limits) write.limits;
           value = value;
@@ -158,12 +136,13 @@ module _ (g : Graph) (items : AreFew g.items) (tags : AreFew g.tags) (item_names
           shown = record {
             name = refl;
             names = sym named_all;
-            parameters = omega (arith, many_one, few);
+            parameters = omega (arith, length-map one name_of, few);
             read = subst (λ (l : List Text). IsBlock l (sheet_of g step) read.value step.body.read) (sym named_all) read.resolves;
             write = subst (λ (l : List Text). IsBlock l (sheet_of g step) write.value step.body.write) (sym named_all) write.resolves;
             keeps = good.of_graph.keeps;
             once = ap (λ (l : List Name). repeated [] l) (sym (map-append name_of one two))
-                ∙ not_repeated [] step.names (one ++ two) bear (apart step.names good.textual.names.distinct) (each (λ text. AllByRecursion (λ other. is_text text other ≡ false) []) (λ text. tt) step.names);
+                ∙ not_repeated [] (one ++ two) (subst (Apart is_text) (sym (texts_of step.names (one ++ two) bear)) (apart step.names good.textual.names.distinct))
+                (each (λ text. AllByRecursion (λ other. is_text text other ≡ false) []) (λ text. tt) _);
           };
         };
       }
