@@ -8,7 +8,7 @@ use Rattle.steptree.specs.Sheet.{IsAllowed, KeepsTo}
 use Rattle.steptree.specs.Nameable.{Collection, Nameable}
 use Rattle.steptree.specs.Limits.{AreFew}
 use Rattle.graph.specs.Textual.{IsGraphName, AreNames, IsTextExpression, AreComponents, IsReadBlock, IsWriteBlock}
-use Rattle.graph.proofs.PrintedTokens.{found_at, never, Printed, behind, and, nothing, printed_name, no_name_limit, no_more_limit, inside, lined, word_first, semicolon, close_brace, open_brace, equals, dots, among, otherwise, in_order}
+use Rattle.graph.proofs.PrintedTokens.{found_at, never, Printed, behind, and, nothing, printed_name, no_name_limit, no_more_limit, inside, lined, word_first, semicolon, close_brace, open_brace, equals, dots, among, otherwise, in_order, inside_rounds, inside_brackets, inside_angles}
 use Rattle.graph.proofs.Lists.{each_at, no_both}
 use Rattle.steptree.specs.Tree.{Expression, Block, End, Assign, If, For, NamedBlock, Get, PutItem, PutTag}
 use Rattle.steptree.specs.Resolved.{IsBlock}
@@ -17,12 +17,12 @@ use Rattle.syntax.specs.declared.token.Word.TheVariants as kept
 use Rattle.syntax.specs.declared.token.Symbol.TheVariants as sign
 use Rattle.syntax.specs.Tokens.{name}
 use Rattle.syntax.specs.Grammar.{Position, sum_alone, prod_alone, unary_alone, Expr, assigned, if_else, for, Statements, no_more, and_then, own, put_item, put_tag}
-use Rattle.syntax.specs.Spelled.{Piece, statements_pieces, get_pieces, put_pieces, condition_pieces, at, expr_pieces, a_sign, a_word}
+use Rattle.syntax.specs.Spelled.{Piece, statements_pieces, get_pieces, put_pieces, condition_pieces, at, expr_pieces, a_sign, a_word, plain}
 use Rattle.syntax.specs.Limits.{statements_limits, get_limits, put_limits}
 use Rattle.syntax.specs.Tree.{AreStatements, IsGet, IsPut}
 use Rattle.graph.specs.Graph.{Graph, Step, sheet_of}
 use Rattle.graph.specs.Canonical.{in_rounds, expression_text, block_text, line, assignment_line, condition_line, range_line, item_text, get_line, put_item_line, put_tag_line}
-use Rattle.graph.proofs.PrintedExpressions.{rounded_anywhere, expression_printed, no_limits, key_printed, bracketed_key, angled_key, key_fronts}
+use Rattle.graph.proofs.PrintedExpressions.{expression_printed, no_limits, key_printed, key_fronts}
 use Rattle.graph.proofs.PrintedValues.{name_of}
 use Rattle.terms.specs.declared.name.ItemCollection.{ItemCollection}
 use Rattle.terms.specs.declared.name.TagCollection.{TagCollection}
@@ -105,7 +105,7 @@ module _ {B : Type 0} (own_pieces : B → List Piece) (own_limits : B → List P
         let expr : Expr = sum_alone (prod_alone (unary_alone it.unary)) in
         let brace : ℕ = start + length (codes "if " ++ in_rounds (expression_text g names condition)) in
         let other : ℕ = inside level (place + length (if_front level condition first)) + 1 + 1 + 4 + 1 in
-        let head = lined level place (and (and (word_first start kept.If) (rounded_anywhere it.printed)) (open_brace brace)) in
+        let head = lined level place (and (and (word_first start kept.If) (inside_rounds (plain _) refl it.printed)) (open_brace brace)) in
         let front = and (and head one.printed) (lined level (place + length (if_front level condition first)) (otherwise _)) in record {
           statements = and_then (if_else expr (brace + 1) one.statements other two.statements) later.statements;
           printed = in_order (two_inside (condition_pieces expr) (statements_pieces own_pieces one.statements) (statements_pieces own_pieces two.statements) (statements_pieces own_pieces later.statements) _ _ _ _ _)
@@ -167,7 +167,7 @@ module _ (g : Graph) (step : Step) (names : List Text) (are : AreNames names)
       let it = key_printed g names are (get_or (names_in g.items) collection.0 []) is.name components (start + length (codes "get " ++ variable ++ codes " = ") + 1) is.few all in
       let head = behind (and (word_first start kept.Get) (printed_name _ variable good)) (equals _) (λ more may. refl) in record {
         statements = and_then (own (record { variable = (variable, start + 4); item = it.key })) later.statements;
-        printed = and (lined level place (and (and head (bracketed_key it.key it.printed)) (semicolon _))) later.printed;
+        printed = and (lined level place (and (and head (inside_brackets (plain _) refl it.printed)) (semicolon _))) later.printed;
         limits = no_both _ _ (no_both _ _ (no_name_limit variable (start + 4) good) it.limits) later.limits;
         value = Get (name_of (variable, start + 4)) it.name it.parts later.value;
         is = ((refl, refl), it.is, later.is);
@@ -181,7 +181,7 @@ module _ (g : Graph) (step : Step) (names : List Text) (are : AreNames names)
       let start : ℕ = inside level place in
       let it = key_printed g names are (get_or (names_in g.items) collection.0 []) is.name components (start + 4 + 1) is.few all in
       let it2 = expression_printed g names are value (start + length (codes "put " ++ item_text g names collection.0 components ++ codes " = ")) value_is.0 in
-      let head = and (and (word_first start kept.Put) (bracketed_key it.key it.printed)) (equals _) in record {
+      let head = and (and (word_first start kept.Put) (inside_brackets (plain _) refl it.printed)) (equals _) in record {
         statements = and_then (own (put_item it.key (sum_alone (prod_alone (unary_alone it2.unary))))) later.statements;
         printed = and (lined level place (behind (and head it2.printed) (semicolon _) (λ more may. refl))) later.printed;
         limits = no_both _ _ (no_both _ _ it.limits (no_limits it2 value_is.1)) later.limits;
@@ -196,7 +196,7 @@ module _ (g : Graph) (step : Step) (names : List Text) (are : AreNames names)
   tag_put_printed level around place collection components rest all is later =
       let tag : Text = get_or (names_in g.tags) collection.0 [] in
       let it = key_printed g names are tag is.name components (inside level place + 4 + 1) is.few all in
-      let tag_printed = angled_key it.key (key_fronts tag (map (expression_text g names) components) is.name) it.printed in record {
+      let tag_printed = inside_angles (key_fronts tag (map (expression_text g names) components) is.name) it.printed in record {
         statements = and_then (own (put_tag it.key)) later.statements;
         printed = and (lined level place (behind (and (word_first _ kept.Put) tag_printed) (semicolon _) (λ more may. refl))) later.printed;
         limits = no_both _ _ it.limits later.limits;

@@ -1,25 +1,25 @@
 -- Lists of names and declarations as they are printed: items first, then tags, within the limits and without a fault.
-use Rattle.std.proofs.Common.{◌≡◌, ◌≢◌, ℕ, ◌+◌, ◌≤◌, true, List, [], ◌∷◌, ◌++◌, length, map, codes, Option, Some, None, refl, sym, ap, subst, arith, length-take-le, Bool, ◌∙◌, append_assoc, suc, false}
+use Rattle.std.proofs.Common.{◌≡◌, ◌≢◌, ℕ, ◌+◌, ◌≤◌, true, List, [], ◌∷◌, ◌++◌, length, map, codes, Option, Some, None, refl, sym, ap, subst, arith, length-take-le, Bool, ◌∙◌, suc, false}
 use Rattle.std.specs.List.{AllByRecursion, flat_map}
 use Rattle.std.proofs.lemmas.List.{drop_all, map-id}
 use Rattle.terms.specs.declared.key.TheConstants.{MAX_COMPONENTS}
 use Rattle.steptree.specs.Names.{Text, is_text, names_in}
 use Rattle.syntax.specs.declared.token.Word.{Word}
 use Rattle.syntax.specs.declared.token.Word.TheVariants as kept
-use Rattle.syntax.specs.Tokens.{is_letter, word_text, BeginsWithout}
+use Rattle.syntax.specs.Tokens.{is_letter, word_text}
 use Rattle.syntax.specs.Grammar.{Named, Names, Position, Declaration, item_declared, tag_declared}
-use Rattle.syntax.specs.Spelled.{named, names_pieces, after_colon, parameters_pieces, variables_pieces, Piece, a_sign, declaration_pieces}
+use Rattle.syntax.specs.Spelled.{named, names_pieces, after_colon, parameters_pieces, variables_pieces, Piece, declaration_pieces, plain}
 use Rattle.syntax.specs.Limits.{name_limits, names_behind, all_names, declared_limits, declarations_limits}
 use Rattle.syntax.specs.Tree.{IsName, AreAll, IsDeclaration}
 use Rattle.graph.specs.Textual.{IsGraphName}
 use Rattle.graph.specs.Canonical.{joined, with_colon, letters, component_names, variables_line, in_brackets, in_angles, line}
-use Rattle.graph.proofs.PrintedTokens.{after_word, never, anything, Printed, behind, and, narrowed, nothing, printed_name, no_name_limit, inside, lined, word_first, semicolon, after_sign, and_blanks, closed_sign, open_sign, Fronts, no_more_limit}
+use Rattle.graph.proofs.PrintedTokens.{after_word, never, anything, Printed, behind, and, narrowed, nothing, printed_name, no_name_limit, inside, lined, word_first, semicolon, and_blanks, no_more_limit, inside_brackets, inside_angles}
 use Rattle.graph.proofs.PrintedExpressions.{OnePrinted, joined_printed, no_all, colon, AllPrinted, all_printed, key_fronts}
 use Rattle.graph.proofs.PrintedValues.{name_of}
 use Rattle.graph.proofs.PrintedApart.{take_each, Apart, Clear, clear_of_both, nowhere}
 use Rattle.steptree.specs.Nameable.{Collection}
 use Rattle.syntax.specs.declared.token.Symbol.TheVariants as sign
-use Rattle.graph.proofs.Lists.{as_many, no_both, each_weaker}
+use Rattle.graph.proofs.Lists.{as_many, no_both, each_weaker, in_common}
 use Rattle.std.specs.Prelude.{is_some}
 use Rattle.steptree.specs.declared.sheet.TheConstants.{MOST_COLLECTIONS}
 use Rattle.syntax.specs.declared.tree.Declaration.{Declaration as Declared}
@@ -33,19 +33,14 @@ pub record Bears (text : Text) (it : Named) : Type 0 where
   pub same : it.0 ≡ text
   pub good : IsGraphName text
 
-pub no_limit_of : (text : Text) (it : Named) → Bears text it → name_limits it ≡ []
-no_limit_of text it bears = no_name_limit it.0 it.1 (subst IsGraphName (sym bears.same) bears.good)
-
 pub no_limits_of : (texts : List Text) (those : List Named) → AreAll Bears texts those → flat_map name_limits those ≡ []
-no_limits_of texts those all = no_all Bears name_limits no_limit_of texts those all
+no_limits_of texts those all = no_all Bears name_limits (λ text it bears. no_name_limit it.0 it.1 (subst IsGraphName (sym bears.same) bears.good)) texts those all
 
 pub none_behind : (most : ℕ) (those : List Named) → length those ≤ most → names_behind most those ≡ []
 none_behind most those few = ap (λ (l : List Named). map (λ it. it.1) l) (drop_all most those few)
 
 pub texts_of : (texts : List Text) (those : List Named) → AreAll Bears texts those → map (λ (it : Named). it.0) those ≡ texts
-texts_of [] [] all = refl
-texts_of (text ∷ texts) (it ∷ those) all = let heads : it.0 ≡ text = all.0.same in let tails = texts_of texts those all.1 in cc
-texts_of _ _ all = absurd (assumption)
+texts_of texts those all = sym (in_common Bears (λ (text : Text). text) (λ (it : Named). it.0) (λ text it bears. sym bears.same) texts those all) ∙ map-id texts
 
 pub names_of_all : (those : List Named) → AreAll IsName those (map name_of those)
 names_of_all [] = tt
@@ -85,7 +80,7 @@ head_printed collection [] place is good = record { names = None; printed = prin
 head_printed collection (first ∷ more) place is good =
     let it = names_printed first more (place + length (collection ++ codes ": ")) good in record {
       names = Some it.names;
-      printed = and (behind (printed_name place collection is) (colon (place + length collection)) (λ rest may. refl)) it.printed;
+      printed = and (behind (printed_name place collection is) (colon _) (λ rest may. refl)) it.printed;
       related = it.related;
     }
 
@@ -96,10 +91,9 @@ parameters_printed (first ∷ more) place good = let it = names_printed first mo
 pub variables_printed : (texts : List Text) (place : ℕ) → AllByRecursion IsGraphName texts → ListPrinted never place (variables_line texts) variables_pieces texts
 variables_printed [] place good = record { names = None; printed = nothing place; related = tt }
 variables_printed (first ∷ more) place good =
-    let start : ℕ = inside 1 place in
-    let it = names_printed first more (start + 4) good in record {
+    let it = names_printed first more (inside 1 place + 4) good in record {
       names = Some it.names;
-      printed = lined 1 place (behind (and (word_first start kept.Var) it.printed) (semicolon (start + length (codes "var " ++ joined (first ∷ more)))) (λ rest may. refl));
+      printed = lined 1 place (behind (and (word_first _ kept.Var) it.printed) (semicolon _) (λ rest may. refl));
       related = it.related;
     }
 
@@ -113,28 +107,13 @@ good_letter : (letter : ℕ) → is_letter letter ≡ true → IsGraphName (lett
 good_letter letter is = record { word = (is, tt); not_reserved = is_a_name letter; short = omega arith }
 
 good_letters : AllByRecursion IsGraphName letters
-good_letters = (
-  good_letter 105 refl,
-  (good_letter 106 refl, (good_letter 107 refl, (good_letter 108 refl, (good_letter 109 refl, (good_letter 110 refl, (good_letter 111 refl, (good_letter 112 refl, tt))))))),
-)
+good_letters = search good_letter depth 20
 
 pub good_components : (components : ℕ) → AllByRecursion IsGraphName (component_names components)
 good_components components = take_each IsGraphName components letters good_letters
 
 pub many_components : (components : ℕ) → components ≤ MAX_COMPONENTS → length (component_names components) ≡ components
 many_components components few = length-take-le components letters (omega (arith, few))
-
--- ---- in brackets
-
-pub bracketed : {place : ℕ} {text : Text} {pieces : List Piece} → Printed after_word (place + 1) text pieces → Printed never place (in_brackets text) (a_sign sign.OpenBracket ++ pieces ++ a_sign sign.CloseBracket)
-bracketed {place} {text} one =
-    and (closed_sign place 91 sign.OpenBracket _ refl refl refl) (behind one (closed_sign (place + 1 + length text) 93 sign.CloseBracket _ refl refl refl) (λ rest may. refl))
-
-pub angled : {place : ℕ} {text : Text} {pieces : List Piece} → Fronts text → Printed after_word (place + 1) text pieces → Printed after_sign place (in_angles text) (a_sign sign.Less ++ pieces ++ a_sign sign.Greater)
-angled {place} {text} fronts one =
-    let close = open_sign (place + 1 + length text) 62 sign.Greater _ refl refl (λ e. omega (arith, e)) in
-    behind (open_sign place 60 sign.Less _ refl refl (λ e. omega (arith, e))) (behind one close (λ rest may. refl))
-    (λ rest may. subst (BeginsWithout after_sign) (sym (append_assoc text (codes ">") rest)) (fronts (codes ">" ++ rest)))
 
 -- ---- one declaration
 
@@ -171,7 +150,7 @@ item_line_printed collection place good =
     let it = head_printed collection.name (component_names collection.components) (place + 1) good.name (good_components collection.components) in
     let end = semicolon (place + length (in_brackets (with_colon collection.name (component_names collection.components)))) in record {
       derived = item_declared (collection.name, place + 1) it.names;
-      printed = and_blanks (and (bracketed it.printed) end) (codes "\n") (refl, tt) (λ rest may. refl);
+      printed = and_blanks (and (inside_brackets (plain _) refl it.printed) end) (codes "\n") (refl, tt) (λ rest may. refl);
       related = declares item_declared collection (place + 1) it good;
     }
 
@@ -179,7 +158,7 @@ tag_line_printed : (collection : Collection) (place : ℕ) → Declarable collec
 tag_line_printed collection place good =
     let it = head_printed collection.name (component_names collection.components) (place + 1) good.name (good_components collection.components) in
     let end = semicolon (place + length (in_angles (with_colon collection.name (component_names collection.components)))) in
-    let head = angled (key_fronts collection.name (component_names collection.components) good.name) it.printed in record {
+    let head = inside_angles (key_fronts collection.name (component_names collection.components) good.name) it.printed in record {
       derived = tag_declared (collection.name, place + 1) it.names;
       printed = and_blanks (behind head end (λ rest may. refl)) (codes "\n") (refl, tt) (λ rest may. refl);
       related = declares tag_declared collection (place + 1) it good;

@@ -4,11 +4,11 @@ use Rattle.std.proofs.lemmas.List.Folds.{flat_map-map}
 use Rattle.std.specs.List.{AllByRecursion, flat_map}
 use Rattle.syntax.specs.declared.token.Symbol.TheVariants as sign
 use Rattle.syntax.specs.Tokens.{BeginsWithout, GREATEST}
-use Rattle.syntax.specs.Spelled.{Piece, a_sign, at, sign_at, expr_pieces, unary_pieces, named, sum_pieces, sums_pieces, item_pieces, tag_pieces}
+use Rattle.syntax.specs.Spelled.{Piece, a_sign, at, sign_at, expr_pieces, unary_pieces, named, sum_pieces, sums_pieces}
 use Rattle.syntax.specs.Tree.{AreAll, IsExpr, IsUnary, IsSum, IsKey}
 use Rattle.steptree.specs.Names.{Text}
-use Rattle.graph.specs.Canonical.{joined, in_rounds, operator_text, expression_text, with_colon, in_brackets, in_angles}
-use Rattle.graph.proofs.PrintedTokens.{after_word, never, anything, Printed, behind, and, and_blanks, narrowed, nothing, closed_sign, after_sign, and_space, sign_and_space, open_sign, double_sign, Fronts, printed_name, name_fronts, no_name_limit, no_more_limit, printed_number, number_fronts, found_at, within_limit}
+use Rattle.graph.specs.Canonical.{joined, operator_text, expression_text, with_colon}
+use Rattle.graph.proofs.PrintedTokens.{after_word, never, anything, Printed, behind, and, and_blanks, narrowed, nothing, closed_sign, after_sign, and_space, sign_and_space, open_sign, double_sign, Fronts, printed_name, name_fronts, no_name_limit, no_more_limit, printed_number, number_fronts, found_at, within_limit, inside_rounds}
 use Rattle.std.specs.Prelude.{max}
 use Rattle.steptree.specs.declared.expression.Operator.{Operator}
 use Rattle.steptree.specs.declared.expression.Operator.TheVariants as operator
@@ -170,17 +170,6 @@ printed_operator place operator.LessOrEqual = closed (double_sign place 60 61 si
 printed_operator place operator.Greater = open_sign place 62 sign.Greater _ refl refl (λ e. omega (arith, e))
 printed_operator place operator.GreaterOrEqual = closed (double_sign place 62 61 sign.GreaterOrEqual _ refl refl)
 
--- ---- in round brackets
-
-pub rounded : {place : ℕ} {text : List ℕ} {pieces : List Piece} → Printed after_word (place + 1) text pieces → Printed never place (in_rounds text) (sign_at place sign.OpenRound ++ pieces ++ a_sign sign.CloseRound)
-rounded {place} {text} one =
-    and (closed_sign place 40 sign.OpenRound _ (refl, refl) refl refl) (behind one (closed_sign (place + 1 + length text) 41 sign.CloseRound _ refl refl refl) (λ rest may. refl))
-
--- at no position in particular
-pub rounded_anywhere : {place : ℕ} {text : List ℕ} {pieces : List Piece} → Printed after_word (place + 1) text pieces → Printed never place (in_rounds text) (a_sign sign.OpenRound ++ pieces ++ a_sign sign.CloseRound)
-rounded_anywhere {place} {text} one =
-    and (closed_sign place 40 sign.OpenRound _ refl refl refl) (behind one (closed_sign (place + 1 + length text) 41 sign.CloseRound _ refl refl refl) (λ rest may. refl))
-
 -- ---- expressions
 
 -- what is known of a printed expression, inside its own brackets
@@ -226,7 +215,7 @@ module _ (g : Graph) (names : List Text) (are : AreNames names) where
   negation_printed : (place : ℕ) (operand : Expression) → IsPrinted g names (place + 1 + 1) operand → IsPrinted g names place (Negation operand)
   negation_printed place operand it = record {
     unary = bracketed place (sum_alone (prod_alone (unary_alone (negated (place + 1) it.unary))));
-    printed = narrowed (λ rest may. anything rest) (rounded (behind (open_sign (place + 1) 45 sign.Minus (at (place + 1) _) (refl, refl) refl (λ e. omega (arith, e))) it.printed (λ rest may. it.fronts rest)));
+    printed = narrowed (λ rest may. anything rest) (inside_rounds (at _ _) (refl, refl) (behind (open_sign (place + 1) 45 sign.Minus (at (place + 1) _) (refl, refl) refl (λ e. omega (arith, e))) it.printed (λ rest may. it.fronts rest)));
     fronts = λ rest. refl;
     depth = ap suc it.depth;
     within = λ around h. no_both _ _ (no_more_limit MOST_BRACKETS around place (omega (arith, some_depth operand))) (it.within (suc around) (omega arith));
@@ -247,7 +236,7 @@ module _ (g : Graph) (names : List Text) (are : AreNames names) where
       let all = and front two.printed in record {
         unary = bracketed place (between op one.unary two.unary);
         printed = narrowed (λ rest may. anything rest)
-            (subst (λ (p : List Piece). Printed never place (expression_text g names (Operation op left right)) (sign_at place sign.OpenRound ++ p ++ a_sign sign.CloseRound)) (sym (between_pieces op one.unary two.unary)) (rounded all));
+            (subst (λ (p : List Piece). Printed never place (expression_text g names (Operation op left right)) (sign_at place sign.OpenRound ++ p ++ a_sign sign.CloseRound)) (sym (between_pieces op one.unary two.unary)) (inside_rounds (at _ _) (refl, refl) all));
         fronts = λ rest. refl;
         depth = between_depth op one.unary two.unary ∙ ap (λ (n : ℕ). suc (max n (unary_depth two.unary))) one.depth ∙ ap (λ (n : ℕ). suc (max (depth_of left) n)) two.depth;
         within = λ around h.
@@ -347,18 +336,6 @@ module _ (g : Graph) (names : List Text) (are : AreNames names) (collection : Te
         is_of = refl;
         resolve = trees.resolve;
       }
-
--- a key in the brackets of an item, and in those of a tag
-pub bracketed_key : {place : ℕ} {text : Text} (key : Key) → Printed after_word (place + 1) text (named key.collection ∷ sums_pieces key.components) → Printed never place (in_brackets text) (item_pieces key)
-bracketed_key {place} {text} key one =
-    and (closed_sign place 91 sign.OpenBracket _ refl refl refl) (behind one (closed_sign (place + 1 + length text) 93 sign.CloseBracket _ refl refl refl) (λ rest may. refl))
-
-pub angled_key : {place : ℕ} {text : Text} (key : Key) → Fronts text → Printed after_word (place + 1) text (named key.collection ∷ sums_pieces key.components)
-    → Printed after_sign place (in_angles text) (tag_pieces key)
-angled_key {place} {text} key fronts one =
-    let close = open_sign (place + 1 + length text) 62 sign.Greater _ refl refl (λ e. omega (arith, e)) in
-    behind (open_sign place 60 sign.Less _ refl refl (λ e. omega (arith, e))) (behind one close (λ rest may. refl))
-    (λ rest may. subst (BeginsWithout after_sign) (sym (append_assoc text (codes ">") rest)) (fronts (codes ">" ++ rest)))
 
 -- a key begins with its name
 pub key_fronts : (collection : Text) (components : List Text) → IsGraphName collection → Fronts (with_colon collection components)

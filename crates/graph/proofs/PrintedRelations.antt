@@ -7,14 +7,13 @@ use Rattle.steptree.specs.Names.{Text, names_in, is_text}
 use Rattle.syntax.specs.declared.token.Word.TheVariants as kept
 use Rattle.syntax.specs.declared.token.Symbol.TheVariants as sign
 use Rattle.syntax.specs.Grammar.{Relation, prescribes, reads, puts_item, puts_tag, environment_puts_item, environment_puts_tag, environment_gets}
-use Rattle.syntax.specs.Spelled.{Piece, a_sign, sign_at, relation_pieces, arrow as arrow_pieces}
+use Rattle.syntax.specs.Spelled.{Piece, relation_pieces, arrow as arrow_pieces, plain, at}
 use Rattle.syntax.specs.Limits.{name_limits, relation_limits}
 use Rattle.graph.specs.Graph.{Graph, Step}
 use Rattle.graph.specs.Textual.{IsGraphName}
 use Rattle.graph.specs.Canonical.{in_brackets, in_angles, in_rounds, arrow, line, those, step_relations, environment_relations}
-use Rattle.graph.proofs.PrintedTokens.{after_word, never, anything, Printed, behind, and, and_blanks, closed_sign, printed_name, name_fronts, no_name_limit, word_at, a_word_alone, semicolon, arrow_sign, colons}
-use Rattle.graph.proofs.PrintedExpressions.{rounded, rounded_anywhere, OnePrinted, AllPrinted, all_printed}
-use Rattle.graph.proofs.PrintedDeclarations.{bracketed, angled}
+use Rattle.graph.proofs.PrintedTokens.{never, anything, Printed, behind, and, and_blanks, printed_name, name_fronts, no_name_limit, word_at, a_word_alone, semicolon, arrow_sign, colons, inside_rounds, inside_brackets, inside_angles}
+use Rattle.graph.proofs.PrintedExpressions.{OnePrinted, AllPrinted, all_printed}
 use Rattle.graph.proofs.Lists.{no_both, any_agree, each_found, each_unmapped}
 use Rattle.std.specs.Prelude.{slice_get}
 use Rattle.syntax.specs.declared.tree.Relation.{Relation as Related}
@@ -73,10 +72,6 @@ pub record Shaped (shape : Shape) (relation : Relation) : Type 0 where
 
 -- ---- one relation
 
-bracketed_at : {place : ℕ} {text : Text} {pieces : List Piece} → Printed after_word (place + 1) text pieces → Printed never place (in_brackets text) (sign_at place sign.OpenBracket ++ pieces ++ a_sign sign.CloseBracket)
-bracketed_at {place} {text} one =
-    and (closed_sign place 91 sign.OpenBracket _ (refl, refl) refl refl) (behind one (closed_sign (place + 1 + length text) 93 sign.CloseBracket _ refl refl refl) (λ rest may. refl))
-
 arrow_printed : {stop other : ℕ → Bool} {place : ℕ} {from to : Text} {p q : List Piece} → Printed stop place from p → Printed other (place + length (from ++ codes " -> ")) to q → stop 32 ≡ false → other 59 ≡ false
     → Printed never place (arrow from to) (arrow_pieces p q)
 arrow_printed {stop} {other} {place} {from} {to} one two space_may end_may =
@@ -89,40 +84,40 @@ both_names one two place other is is2 = no_both _ _ (no_name_limit one place is)
 relation_printed : (shape : Shape) (place : ℕ) → HasGoodNames shape → OnePrinted never shape_line relation_pieces Shaped place shape
 relation_printed (a_prescription tag step) place good =
     let there : ℕ = place + length (in_angles tag ++ codes " :: ") in
-    let head = behind (angled (name_fronts tag good.0) (printed_name (place + 1) tag good.0)) (colons (place + length (in_angles tag))) (λ rest may. refl) in
-    let all = and (and head (rounded_anywhere (printed_name (there + 1) step good.1))) (semicolon (place + length (in_angles tag ++ codes " :: " ++ in_rounds step))) in record {
+    let head = behind (inside_angles (name_fronts tag good.0) (printed_name (place + 1) tag good.0)) (colons (place + length (in_angles tag))) (λ rest may. refl) in
+    let all = and (and head (inside_rounds (plain _) refl (printed_name (there + 1) step good.1))) (semicolon (place + length (in_angles tag ++ codes " :: " ++ in_rounds step))) in record {
       derived = prescribes (tag, place + 1) (step, there + 1);
       printed = and_blanks all (codes "\n") (refl, tt) (λ rest may. refl);
       related = record { is = refl; limits = both_names tag step (place + 1) (there + 1) good.0 good.1 };
     }
 relation_printed (a_read item step) place good = let there : ℕ = place + length (in_brackets item ++ codes " -> ") in record {
   derived = reads place (item, place + 1) (step, there + 1);
-  printed = arrow_printed (bracketed_at (printed_name (place + 1) item good.0)) (rounded_anywhere (printed_name (there + 1) step good.1)) refl refl;
+  printed = arrow_printed (inside_brackets (at _ _) (refl, refl) (printed_name (place + 1) item good.0)) (inside_rounds (plain _) refl (printed_name (there + 1) step good.1)) refl refl;
   related = record { is = refl; limits = both_names item step (place + 1) (there + 1) good.0 good.1 };
 }
 relation_printed (an_item_put step item) place good = let there : ℕ = place + length (in_rounds step ++ codes " -> ") in record {
   derived = puts_item place (step, place + 1) (item, there + 1);
-  printed = arrow_printed (rounded (printed_name (place + 1) step good.0)) (bracketed (printed_name (there + 1) item good.1)) refl refl;
+  printed = arrow_printed (inside_rounds (at _ _) (refl, refl) (printed_name (place + 1) step good.0)) (inside_brackets (plain _) refl (printed_name (there + 1) item good.1)) refl refl;
   related = record { is = refl; limits = both_names step item (place + 1) (there + 1) good.0 good.1 };
 }
 relation_printed (a_tag_put step tag) place good = let there : ℕ = place + length (in_rounds step ++ codes " -> ") in record {
   derived = puts_tag place (step, place + 1) (tag, there + 1);
-  printed = arrow_printed (rounded (printed_name (place + 1) step good.0)) (angled (name_fronts tag good.1) (printed_name (there + 1) tag good.1)) refl refl;
+  printed = arrow_printed (inside_rounds (at _ _) (refl, refl) (printed_name (place + 1) step good.0)) (inside_angles (name_fronts tag good.1) (printed_name (there + 1) tag good.1)) refl refl;
   related = record { is = refl; limits = both_names step tag (place + 1) (there + 1) good.0 good.1 };
 }
 relation_printed (an_environment_item item) place good = let there : ℕ = place + length (codes "env" ++ codes " -> ") in record {
   derived = environment_puts_item place (item, there + 1);
-  printed = arrow_printed (word_at place kept.Env) (bracketed (printed_name (there + 1) item good)) refl refl;
+  printed = arrow_printed (word_at place kept.Env) (inside_brackets (plain _) refl (printed_name (there + 1) item good)) refl refl;
   related = record { is = refl; limits = no_name_limit item (there + 1) good };
 }
 relation_printed (an_environment_tag tag) place good = let there : ℕ = place + length (codes "env" ++ codes " -> ") in record {
   derived = environment_puts_tag place (tag, there + 1);
-  printed = arrow_printed (word_at place kept.Env) (angled (name_fronts tag good) (printed_name (there + 1) tag good)) refl refl;
+  printed = arrow_printed (word_at place kept.Env) (inside_angles (name_fronts tag good) (printed_name (there + 1) tag good)) refl refl;
   related = record { is = refl; limits = no_name_limit tag (there + 1) good };
 }
 relation_printed (an_environment_get item) place good = let there : ℕ = place + length (in_brackets item ++ codes " -> ") in record {
   derived = environment_gets place (item, place + 1);
-  printed = arrow_printed (bracketed_at (printed_name (place + 1) item good)) (a_word_alone there kept.Env) refl refl;
+  printed = arrow_printed (inside_brackets (at _ _) (refl, refl) (printed_name (place + 1) item good)) (a_word_alone there kept.Env) refl refl;
   related = record { is = refl; limits = no_name_limit item (place + 1) good };
 }
 

@@ -15,7 +15,7 @@ use Rattle.syntax.specs.declared.token.Word.TheVariants as kept
 use Rattle.syntax.specs.declared.token.Symbol.TheVariants as sign
 use Rattle.syntax.specs.Tokens.{word_text}
 use Rattle.syntax.specs.Grammar.{Named, StepText}
-use Rattle.syntax.specs.Spelled.{Piece, named, a_sign, a_word, parameters_pieces, variables_pieces, get_pieces, put_pieces, statements_pieces, step_pieces}
+use Rattle.syntax.specs.Spelled.{Piece, named, a_sign, a_word, parameters_pieces, variables_pieces, get_pieces, put_pieces, statements_pieces, step_pieces, plain}
 use Rattle.syntax.specs.Limits.{all_names, step_limits, steps_limits}
 use Rattle.syntax.specs.Tree.{AreAll, IsStep}
 use Rattle.graph.specs.declared.fault.GraphError.TheVariants.{StepTwice}
@@ -24,8 +24,8 @@ use Rattle.graph.specs.Tree.{text_of, step_names, is_read, is_item_put, is_tag_p
 use Rattle.graph.specs.Faults.{At, fault_if, has, repeated, or_else, components_of, arity_faults, step_faults}
 use Rattle.graph.specs.Textual.{IsGraphName, AreNames, IsTextStep}
 use Rattle.graph.specs.Canonical.{in_rounds, joined, line, variables_line, block_text, step_text}
-use Rattle.graph.proofs.PrintedTokens.{never, Printed, behind, and, printed_name, no_name_limit, lined, word_first, close_brace, plain_brace, a_word_alone, no_more_limit, in_order}
-use Rattle.graph.proofs.PrintedExpressions.{rounded_anywhere, OnePrinted}
+use Rattle.graph.proofs.PrintedTokens.{never, Printed, behind, and, printed_name, no_name_limit, lined, word_first, close_brace, plain_brace, a_word_alone, no_more_limit, in_order, inside_rounds}
+use Rattle.graph.proofs.PrintedExpressions.{OnePrinted}
 use Rattle.graph.proofs.PrintedDeclarations.{Bears, no_limits_of, none_behind, texts_of, names_of_all, parameters_printed, variables_printed, one_before, not_there}
 use Rattle.graph.proofs.PrintedBlocks.{known, read_printed, write_printed, many_names}
 use Rattle.graph.proofs.PrintedApart.{Apart, Clear, apart, nowhere, take_each, flipped}
@@ -105,7 +105,7 @@ module _ (g : Graph) (items : AreFew g.items) (tags : AreFew g.tags) (item_names
       let variables = variables_printed locals (place + length line0) (drop_each IsGraphName step.parameters step.names good.textual.names.each) in
       let read = read_printed g step step.names good.textual.names (known g.items items item_names) (known g.tags tags tag_names) step.body.read 2 0 (place + length text2) good.textual.read good.of_graph.keeps.0 in
       let write = write_printed g step step.names good.textual.names (known g.items items item_names) (known g.tags tags tag_names) step.body.write 2 0 (place + length text5) good.textual.write good.of_graph.keeps.1 in
-      let title = behind (and (word_first place kept.Step) (printed_name (place + 5) step.name good.textual.name)) (rounded_anywhere parameters.printed) (λ rest may. refl) in
+      let title = behind (and (word_first place kept.Step) (printed_name (place + 5) step.name good.textual.name)) (inside_rounds (plain _) refl parameters.printed) (λ rest may. refl) in
       let text : StepText = record { name = (step.name, place + 5); parameters = parameters.names; variables = variables.names; read = read.statements; write = write.statements } in
       let one : List Named = all_names parameters.names in
       let two : List Named = all_names variables.names in

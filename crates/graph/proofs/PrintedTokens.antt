@@ -22,7 +22,7 @@ use Rattle.steptree.specs.Names.{Text, is_text, place_of}
 use Rattle.graph.specs.Textual.{IsGraphName}
 use Rattle.graph.proofs.Texts.{one_text, itself}
 use Rattle.syntax.specs.declared.token.Symbol.TheVariants as sign
-use Rattle.graph.specs.Canonical.{line}
+use Rattle.graph.specs.Canonical.{line, in_brackets, in_angles, in_rounds}
 
 -- ---- what may not follow a token
 
@@ -361,3 +361,19 @@ among place = and (space place) (word_first (place + 1) reserved.In)
 -- the end of a block that another block follows
 pub otherwise : (place : ℕ) → Printed never place (codes "} else {") (a_sign sign.CloseBrace ++ a_word reserved.Else ++ sign_at (place + 1 + 1 + 4 + 1) sign.OpenBrace)
 otherwise place = and (close_brace place) (and (space (place + 1)) (behind (a_word_alone (place + 1 + 1) reserved.Else) (open_brace (place + 1 + 1 + 4)) (λ rest may. refl)))
+
+-- ---- in brackets
+
+-- the opening sign is a piece at its place, or at any place
+pub inside_brackets : {place : ℕ} {text : Text} {pieces : List Piece} (first : Piece) → IsPiece first (symbol sign.OpenBracket, place) → Printed after_word (place + 1) text pieces
+    → Printed never place (in_brackets text) ((first ∷ []) ++ pieces ++ a_sign sign.CloseBracket)
+inside_brackets first is one = and (closed_sign _ 91 sign.OpenBracket first is refl refl) (behind one (closed_sign _ 93 sign.CloseBracket _ refl refl refl) (λ rest may. refl))
+
+pub inside_rounds : {place : ℕ} {text : Text} {pieces : List Piece} (first : Piece) → IsPiece first (symbol sign.OpenRound, place) → Printed after_word (place + 1) text pieces
+    → Printed never place (in_rounds text) ((first ∷ []) ++ pieces ++ a_sign sign.CloseRound)
+inside_rounds first is one = and (closed_sign _ 40 sign.OpenRound first is refl refl) (behind one (closed_sign _ 41 sign.CloseRound _ refl refl refl) (λ rest may. refl))
+
+pub inside_angles : {place : ℕ} {text : Text} {pieces : List Piece} → Fronts text → Printed after_word (place + 1) text pieces → Printed after_sign place (in_angles text) (a_sign sign.Less ++ pieces ++ a_sign sign.Greater)
+inside_angles {place} {text} fronts one =
+    behind (open_sign place 60 sign.Less _ refl refl (λ e. omega (arith, e))) (behind one (open_sign _ 62 sign.Greater _ refl refl (λ e. omega (arith, e))) (λ rest may. refl))
+    (λ rest may. subst (BeginsWithout after_sign) (sym (append_assoc text (codes ">") rest)) (fronts (codes ">" ++ rest)))
