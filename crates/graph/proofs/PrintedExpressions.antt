@@ -1,14 +1,14 @@
 -- Printed expressions, lists and keys: their derivations, their trees, and that they exceed no limit.
-use Rattle.std.proofs.Common.{◌≡◌, ℕ, ◌+◌, Bool, List, [], ◌∷◌, ◌++◌, length, map, codes, refl, sym, subst, append_assoc, suc, ℤ, pos, ◌<◌, ◌≤◌, get_or, ap, ◌∙◌, arith}
+use Rattle.std.proofs.Common.{◌≡◌, ℕ, ◌+◌, Bool, List, [], ◌∷◌, ◌++◌, length, map, codes, refl, sym, subst, append_assoc, suc, ℤ, pos, ◌≤◌, get_or, ap, ◌∙◌, arith}
 use Rattle.std.proofs.lemmas.List.Folds.{flat_map-map}
 use Rattle.std.specs.List.{AllByRecursion, flat_map}
 use Rattle.syntax.specs.declared.token.Symbol.TheVariants as sign
-use Rattle.syntax.specs.Tokens.{BeginsWithout, GREATEST}
+use Rattle.syntax.specs.Tokens.{BeginsWithout}
 use Rattle.syntax.specs.Spelled.{Piece, a_sign, at, sign_at, expr_pieces, unary_pieces, named, sum_pieces, sums_pieces}
 use Rattle.syntax.specs.Tree.{AreAll, IsExpr, IsUnary, IsSum, IsKey}
 use Rattle.steptree.specs.Names.{Text}
 use Rattle.graph.specs.Canonical.{joined, operator_text, expression_text, with_colon}
-use Rattle.graph.proofs.PrintedTokens.{after_word, never, anything, Printed, behind, and, and_blanks, narrowed, nothing, closed_sign, after_sign, and_space, sign_and_space, open_sign, double_sign, Fronts, printed_name, name_fronts, no_name_limit, no_more_limit, printed_number, number_fronts, found_at, within_limit, inside_rounds}
+use Rattle.graph.proofs.PrintedTokens.{after_word, never, anything, Printed, behind, and, and_blanks, narrowed, nothing, closed_sign, after_sign, and_space, sign_and_space, open_sign, double_sign, Fronts, printed_name, name_fronts, no_name_limit, no_more_limit, printed_number, number_fronts, found_at, within_limit, inside_rounds, in_order}
 use Rattle.std.specs.Prelude.{max}
 use Rattle.steptree.specs.declared.expression.Operator.{Operator}
 use Rattle.steptree.specs.declared.expression.Operator.TheVariants as operator
@@ -33,10 +33,8 @@ pub record OnePrinted {X D : Type 0} (stop : ℕ → Bool) (text_of : X → Text
   pub related : Rel x derived
 
 -- all of them from a place on
-pub record AllPrinted {X D : Type 0} (stop : ℕ → Bool) (text_of : X → Text) (pieces_of : D → List Piece) (Rel : X → D → Type 0) (place : ℕ) (xs : List X) : Type 0 where
-  pub derived : List D
-  pub printed : Printed stop place (flat_map text_of xs) (flat_map pieces_of derived)
-  pub related : AreAll Rel xs derived
+abbrev pub AllPrinted : {X D : Type 0} → (ℕ → Bool) → (X → Text) → (D → List Piece) → (X → D → Type 0) → ℕ → List X → Type 0
+AllPrinted stop text_of pieces_of Rel place xs = OnePrinted stop (flat_map text_of) (flat_map pieces_of) (AreAll Rel) place xs
 
 module _ {X D : Type 0} (stop : ℕ → Bool) (text_of : X → Text) (pieces_of : D → List Piece) (Rel : X → D → Type 0) (Good : X → Type 0)
     (fronts : (x : X) (rest : List ℕ) → Good x → BeginsWithout stop (text_of x ++ rest)) where
@@ -188,57 +186,54 @@ some_depth (Number value) = omega arith
 some_depth _ = omega arith
 
 module _ (g : Graph) (names : List Text) (are : AreNames names) where
-  number_printed : (place : ℕ) (value : ℕ) → value ≤ GREATEST → IsPrinted g names place (Number (pos value))
-  number_printed place value small = record {
-    unary = literal place value;
-    printed = printed_number place value small;
-    fronts = number_fronts value small;
-    depth = refl;
-    within = λ around h. refl;
-    value = Number (pos value);
-    is = refl;
-    resolves = refl;
-  }
-
-  variable_printed : (place : ℕ) (slot : ℕ) → slot < length names → IsPrinted g names place (Variable slot)
-  variable_printed place slot within = record {
-    unary = variable (get_or names slot [], place);
-    printed = printed_name place (get_or names slot []) (each_at IsGraphName names slot [] within are.each);
-    fronts = name_fronts (get_or names slot []) (each_at IsGraphName names slot [] within are.each);
-    depth = refl;
-    within = λ around h. no_name_limit (get_or names slot []) place (each_at IsGraphName names slot [] within are.each);
-    value = Variable (name_of (get_or names slot [], place));
-    is = (refl, refl);
-    resolves = found_at names slot are.distinct within;
-  }
-
-  negation_printed : (place : ℕ) (operand : Expression) → IsPrinted g names (place + 1 + 1) operand → IsPrinted g names place (Negation operand)
-  negation_printed place operand it = record {
-    unary = bracketed place (sum_alone (prod_alone (unary_alone (negated (place + 1) it.unary))));
-    printed = narrowed (λ rest may. anything rest) (inside_rounds (at _ _) (refl, refl) (behind (open_sign (place + 1) 45 sign.Minus (at (place + 1) _) (refl, refl) refl (λ e. omega (arith, e))) it.printed (λ rest may. it.fronts rest)));
-    fronts = λ rest. refl;
-    depth = ap suc it.depth;
-    within = λ around h. no_both _ _ (no_more_limit MOST_BRACKETS around place (omega (arith, some_depth operand))) (it.within (suc around) (omega arith));
-    value = Negation it.value;
-    is = it.is;
-    resolves = it.resolves;
-  }
-
   -- up to the second operand
-  up_to : Operator → Expression → List ℕ
+  abbrev up_to : Operator → Expression → List ℕ
   up_to op left = expression_text g names left ++ codes " " ++ operator_text op ++ codes " "
 
-  operation_printed : (place : ℕ) (op : Operator) (left right : Expression)
-      → IsPrinted g names (place + 1) left → IsPrinted g names (place + 1 + length (up_to op left)) right → IsPrinted g names place (Operation op left right)
-  unfolding up_to
-  operation_printed place op left right one two =
-      let front = sign_and_space (and (and_space one.printed) (printed_operator (place + 1 + length (expression_text g names left ++ codes " ")) op)) in
-      let all = and front two.printed in record {
-        unary = bracketed place (between op one.unary two.unary);
+  -- an expression that a text can have can be printed
+  pub expression_printed : (expression : Expression) (place : ℕ) → IsSpelled (length names) expression → IsPrinted g names place expression
+  expression_printed (Number value) place is = subst (λ (z : ℤ). IsPrinted g names place (Number z)) (sym is.1) (record {
+    unary = literal place is.0;
+    printed = printed_number place is.0 is.2;
+    fronts = number_fronts is.0 is.2;
+    depth = refl;
+    within = λ around h. refl;
+    value = Number (pos is.0);
+    is = refl;
+    resolves = refl;
+  })
+  expression_printed (Variable slot) place is =
+      let good = each_at IsGraphName names slot [] is are.each in record {
+        unary = variable (get_or names slot [], place);
+        printed = printed_name place (get_or names slot []) good;
+        fronts = name_fronts (get_or names slot []) good;
+        depth = refl;
+        within = λ around h. no_name_limit (get_or names slot []) place good;
+        value = Variable (name_of (get_or names slot [], place));
+        is = (refl, refl);
+        resolves = found_at names slot are.distinct is;
+      }
+  expression_printed (Negation operand) place is =
+      let it = expression_printed operand (place + 1 + 1) is in record {
+        unary = bracketed place (sum_alone (prod_alone (unary_alone (negated (place + 1) it.unary))));
         printed = narrowed (λ rest may. anything rest)
-            (subst (λ (p : List Piece). Printed never place (expression_text g names (Operation op left right)) (sign_at place sign.OpenRound ++ p ++ a_sign sign.CloseRound)) (sym (between_pieces op one.unary two.unary)) (inside_rounds (at _ _) (refl, refl) all));
+            (inside_rounds (at _ _) (refl, refl) (behind (open_sign (place + 1) 45 sign.Minus (at (place + 1) _) (refl, refl) refl (λ e. omega (arith, e))) it.printed (λ rest may. it.fronts rest)));
         fronts = λ rest. refl;
-        depth = between_depth op one.unary two.unary ∙ ap (λ (n : ℕ). suc (max n (unary_depth two.unary))) one.depth ∙ ap (λ (n : ℕ). suc (max (depth_of left) n)) two.depth;
+        depth = ap suc it.depth;
+        within = λ around h. no_both _ _ (no_more_limit MOST_BRACKETS around place (omega (arith, some_depth operand))) (it.within (suc around) (omega arith));
+        value = Negation it.value;
+        is = it.is;
+        resolves = it.resolves;
+      }
+  expression_printed (Operation op left right) place is =
+      let one = expression_printed left (place + 1) is.0 in
+      let two = expression_printed right (place + 1 + length (up_to op left)) is.1 in
+      let all = and (sign_and_space (and (and_space one.printed) (printed_operator (place + 1 + length (expression_text g names left ++ codes " ")) op))) two.printed in record {
+        unary = bracketed place (between op one.unary two.unary);
+        printed = narrowed (λ rest may. anything rest) (in_order (ap (λ (p : List Piece). sign_at place sign.OpenRound ++ p ++ a_sign sign.CloseRound) (sym (between_pieces op one.unary two.unary)))
+            (inside_rounds (at _ _) (refl, refl) all));
+        fronts = λ rest. refl;
+        depth = between_depth op one.unary two.unary ∙ (λ i. suc (max (one.depth i) (two.depth i)));
         within = λ around h.
             let inner = no_both _ _ (one.within (suc around) (omega arith)) (two.within (suc around) (omega arith)) in
             no_both _ _ (no_more_limit MOST_BRACKETS around place (omega (arith, some_depth left))) (between_within (suc around) op one.unary two.unary ∙ inner);
@@ -246,14 +241,6 @@ module _ (g : Graph) (names : List Text) (are : AreNames names) where
         is = between_is op one.unary two.unary one.value two.value one.is two.is;
         resolves = (refl, one.resolves, two.resolves);
       }
-
-  -- an expression that a text can have can be printed
-  pub expression_printed : (expression : Expression) (place : ℕ) → IsSpelled (length names) expression → IsPrinted g names place expression
-  expression_printed (Number value) place is = subst (λ (z : ℤ). IsPrinted g names place (Number z)) (sym is.1) (number_printed place is.0 is.2)
-  expression_printed (Variable slot) place is = variable_printed place slot is
-  expression_printed (Negation operand) place is = negation_printed place operand (expression_printed operand (place + 1 + 1) is)
-  expression_printed (Operation op left right) place is =
-      operation_printed place op left right (expression_printed left (place + 1) is.0) (expression_printed right (place + 1 + length (up_to op left)) is.1)
 
 -- ---- components
 

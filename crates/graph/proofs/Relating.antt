@@ -13,7 +13,7 @@ use Rattle.graph.specs.Placed.{IsFirst, Reports}
 use Rattle.graph.specs.Marks.{AreRows, mark_between, mark_at, with_mark, with_mark_between, AreMarks, ArePrescribers, prescriber_at, with_prescriber, bits}
 use Rattle.graph.specs.Relations.{AreRelations, Relates, read_faults, put_faults, environment_faults, prescription_faults, AreNumbers, IsUnmarked}
 use Rattle.graph.specs.Tree.{text_of, prescriber_of, is_read, is_item_put, is_tag_put, is_environment_item_put, is_environment_tag_put, is_environment_get}
-use Rattle.graph.proofs.Lists.{any_agree, opened}
+use Rattle.graph.proofs.Lists.{any_agree}
 use Rattle.std.proofs.Math.Bool.{and_comm}
 use Rattle.std.specs.declared.alloc.Global.{Global}
 use Rattle.syntax.specs.declared.tree.Relation.TheVariants as related
@@ -23,9 +23,7 @@ use Rattle.graph.proofs.Faultless.{first_empty, second_empty, first_none, not_so
 use Rattle.graph.proofs.Marks.{marks_stay, one_marked, rows_stay, two_marked}
 use Rattle.graph.proofs.Prescribers.{prescribers_stay, one_prescribed, both_there}
 use Rattle.graph.proofs.Texts.{same_both_ways}
-use Rattle.std.proofs.Math.Seq.{take-length}
-use Rattle.std.proofs.lemmas.List.{take_more, length-replicate, length-map, drop_all}
-use Rattle.graph.specs.Numbered.{names_numbered}
+use Rattle.std.proofs.lemmas.List.{take_more, length-replicate, length-map, drop_all, drop_more, take_all}
 use Rattle.graph.specs.declared.relations.Numbers.{Numbers}
 use Rattle.graph.proofs.FirstFaults.{in_front, empty_in_front}
 
@@ -248,37 +246,30 @@ module _ (items tags steps : List Text) (all : List Relation) where
     pub are : AreRelations items tags steps (take index all) them
     pub left : relation_faults items tags steps [] all ≡ relation_faults items tags steps (take index all) (drop index all)
 
-  module _ (index : ℕ) (old : Relations) (this : Relation) (within : index < length all) (is : this ≡ get_or all index this) (so : RelatedSoFar index old) where
+  module _ (index : ℕ) (old : Relations) (default : Relation) (within : index < length all) (so : RelatedSoFar index old) where
+    abbrev this : Relation
+    this = get_or all index default
+
     here : relation_faults items tags steps [] all ≡ relation_fault items tags steps (take index all) this ++ relation_faults items tags steps (take index all ++ this ∷ []) (drop (index + 1) all)
-    here = so.left ∙ ap (relation_faults items tags steps (take index all)) (opened all index this within is)
+    here = so.left ∙ ap (relation_faults items tags steps (take index all)) (drop_more all index default within)
 
-    taken : take index all ++ this ∷ [] ≡ take (index + 1) all
-    taken = sym (take_more all index this within ∙ ap (λ (r : Relation). take index all ++ r ∷ []) (sym is))
-
-    pub next_related : (new : Relations) → relation_fault items tags steps (take index all) this ≡ [] → AreRelations items tags steps (take index all ++ this ∷ []) new → RelatedSoFar (index + 1) new
-    next_related new none now = record {
-      are = subst (λ (l : List Relation). AreRelations items tags steps l new) taken now;
-      left = here ∙ empty_in_front (relation_fault items tags steps (take index all) this) _ none ∙ ap (λ (l : List Relation). relation_faults items tags steps l (drop (index + 1) all)) taken;
+    pub next_related : (new : Relations) → (relation_fault items tags steps (take index all) this ≡ []) × AreRelations items tags steps (take index all ++ this ∷ []) new → RelatedSoFar (index + 1) new
+    next_related new done = record {
+      are = rw (take_more all index default within) done.1;
+      left = here ∙ empty_in_front (relation_fault items tags steps (take index all) this) _ done.0 ∙ ap (λ (l : List Relation). relation_faults items tags steps l (drop (index + 1) all)) (sym (take_more all index default within));
     }
 
     pub first_related : (fault : PlacedFault) → IsFirst (relation_fault items tags steps (take index all) this) fault → IsFirst (relation_faults items tags steps [] all) fault
     first_related fault first = subst (λ (l : List At). IsFirst l fault) (sym here) (in_front (relation_fault items tags steps (take index all) this) _ fault first)
 
   pub all_related : (index : ℕ) (them : Relations) → index ≡ length all → RelatedSoFar index them → (relation_faults items tags steps [] all ≡ []) × AreRelations items tags steps all them
-  all_related index them end so = (so.left ∙ ap (relation_faults items tags steps (take index all)) (drop_all index all (omega (arith, end))), subst (λ (l : List Relation). AreRelations items tags steps l them) (ap (λ (n : ℕ). take n all) end ∙ take-length all) so.are)
-
-names_long : {V : Type 0} (numbered : List (Text × V)) → length (names_numbered numbered) ≡ length numbered
-names_long numbered = length-map numbered (λ entry. entry.0)
+  all_related index them end so =
+      (so.left ∙ ap (relation_faults items tags steps (take index all)) (drop_all index all (omega (arith, end))), subst (λ (l : List Relation). AreRelations items tags steps l them) (take_all index all (omega (arith, end))) so.are)
 
 -- where nothing is marked, no relation has been added yet
 pub begun : (items tags steps : List Text) (all : List Relation) (numbers : Numbers) (i t s : ℕ) (them : Relations) → AreNumbers items tags steps numbers → i ≡ length numbers.items.now → t ≡ length numbers.tags.now
     → length steps ≡ s → IsUnmarked i t s them → RelatedSoFar items tags steps all 0 them
 begun items tags steps all numbers i t s them are of_items of_tags of_steps none =
-    let is : i ≡ length items = of_items ∙ sym (names_long numbers.items.now) ∙ ap length are.items_are in
-    let ts : t ≡ length tags = of_tags ∙ sym (names_long numbers.tags.now) ∙ ap length are.tags_are in
-    let one = subst (λ (n : ℕ). IsUnmarked n t s them) is none in
-    let two = subst (λ (n : ℕ). IsUnmarked (length items) n s them) ts one in
-    record { are = unmarked items tags steps them (subst (λ (n : ℕ). IsUnmarked (length items) (length tags) n them) (sym of_steps) two); left = refl }
-
-abbrev pub nameless : Name
-nameless = record { text = record { ref_ptr = (0, 0); now = [] }; place = 0 }
+    let is : i ≡ length items = of_items ∙ sym (length-map numbers.items.now (λ entry. entry.0)) ∙ ap length are.items_are in
+    let ts : t ≡ length tags = of_tags ∙ sym (length-map numbers.tags.now (λ entry. entry.0)) ∙ ap length are.tags_are in
+    record { are = unmarked items tags steps them (rw (is, ts, ← of_steps) at none); left = refl }
