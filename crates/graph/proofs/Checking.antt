@@ -13,7 +13,7 @@ use Rattle.graph.specs.Numbered.{names_numbered, found}
 use Rattle.graph.specs.Placed.{IsFirst}
 use Rattle.graph.specs.Steps.{ArePlaces, components_faults, components_by}
 use Rattle.graph.specs.Tree.{text_of, step_names, prescriber_of}
-use Rattle.graph.proofs.FirstFaults.{in_front, empty_in_front, behind_none}
+use Rattle.graph.proofs.Faultless.{in_front, empty_in_front, behind_none}
 use Rattle.graph.proofs.Lists.{opened}
 use Rattle.graph.proofs.Texts.{one_text, itself}
 use Rattle.std.proofs.lemmas.Bool.Decides.{nat_tests}

@@ -5,15 +5,12 @@ mod WithoutFault
 mod Sheets
 mod Checking
 mod Resolving
-mod Places
-pub mod ExampleText
+mod Texts
+pub mod WorkedExamples
 mod Faultless
-mod FirstFaults
-mod FittingTwo
 mod GraphsOfTrees
 mod Lists
 mod Marks
-mod Prescribers
 mod PrescribedSteps
 pub mod PrintedApart
 pub mod PrintedBlocks
@@ -29,9 +26,6 @@ mod ReadBlocks
 mod ReadGraphs
 mod Relating
 pub mod SmallTrees
-mod SoundTokens
 mod Written
 mod Seen
-mod AsciiTexts
-mod Texts
 mod ParsedTexts

@@ -3,7 +3,7 @@ use Rattle.std.proofs.Common.{◌≡◌, ◌<◌, ℕ, zero, suc, ◌+◌, List,
 use Rattle.std.specs.List.{AllByRecursion, list_any, flat_map}
 use Rattle.std.proofs.lemmas.Option.{slice_get_within, get_or_from_slice_get, slice_get-get_or}
 use Rattle.syntax.specs.Tree.{AreAll}
-use Rattle.std.proofs.lemmas.List.{drop_more, take_more, get_or_default}
+use Rattle.std.proofs.lemmas.List.{drop_more, take_more}
 
 -- what is left at an index: the element there, and those after it
 pub opened : {X : Type 0} (xs : List X) (index : ℕ) (this : X) → index < length xs → this ≡ get_or xs index this → drop index xs ≡ this ∷ drop (index + 1) xs
@@ -12,10 +12,6 @@ opened xs index this within is = drop_more xs index this within ∙ ap (λ x. x 
 -- what was taken before an index, and the element there
 pub taken : {X : Type 0} (xs : List X) (index : ℕ) (this : X) → index < length xs → this ≡ get_or xs index this → take (index + 1) xs ≡ take index xs ++ this ∷ []
 taken xs index this within is = take_more xs index this within ∙ ap (λ x. take index xs ++ x ∷ []) (sym is)
-
--- what is read at an index is the element there, whatever the default
-pub stands : {X : Type 0} (xs : List X) (index : ℕ) (default this : X) → index < length xs → get_or xs index default ≡ this → this ≡ get_or xs index this
-stands xs index default this within is = sym is ∙ get_or_default xs index default this within
 
 -- what holds of each element holds of the one at an index
 pub each_at : {X : Type 0} (P : X → Type 0) (xs : List X) (index : ℕ) (default : X) → index < length xs → AllByRecursion P xs → P (get_or xs index default)

@@ -103,11 +103,8 @@ blanks_first place blanks rest (spot ∷ more) blank next = (
   next.7,
 )
 
-blanks_ascii : (blanks : List ℕ) → AreBlank blanks → AllByRecursion (λ byte. byte < 128) blanks
-blanks_ascii blanks h = each_weaker (λ byte. is_blank byte ≡ true) (λ byte. byte < 128) (λ byte it. grind (arith, nat_tests)) blanks h
-
 pub blank : (place : ℕ) (blanks : List ℕ) → AreBlank blanks → Printed never place blanks []
-blank place blanks are_blank = record { spots = []; lexes = λ rest more may next. blanks_first place blanks rest more are_blank next; are = tt; ascii = blanks_ascii blanks are_blank }
+blank place blanks are_blank = record { spots = []; lexes = λ rest more may next. blanks_first place blanks rest more are_blank next; are = tt; ascii = each_weaker (λ byte. is_blank byte ≡ true) (λ byte. byte < 128) (λ byte it. grind (arith, nat_tests)) blanks are_blank }
 
 -- a text and blanks
 pub and_blanks : {stop : ℕ → Bool} {place : ℕ} {a : List ℕ} {p : List Piece} → Printed stop place a p → (blanks : List ℕ) → AreBlank blanks
@@ -129,18 +126,9 @@ nothing place = blank place [] tt
 
 -- ---- one token
 
-letter_ascii : (byte : ℕ) → is_letter byte ≡ true → byte < 128
-letter_ascii byte h = grind (arith, nat_tests)
-
-part_ascii : (byte : ℕ) → after_word byte ≡ true → byte < 128
-part_ascii byte h = grind (arith, nat_tests)
-
 word_ascii : (bytes : List ℕ) → IsWordText bytes → AllByRecursion (λ byte. byte < 128) bytes
 word_ascii [] h = tt
-word_ascii (first ∷ rest) h = (letter_ascii first h.0, each_weaker (λ byte. (is_letter byte || is_digit byte) ≡ true) (λ byte. byte < 128) part_ascii rest h.1)
-
-digits_ascii : (bytes : List ℕ) → AreDigits bytes → AllByRecursion (λ byte. byte < 128) bytes
-digits_ascii digits h = each_weaker (λ byte. is_digit byte ≡ true) (λ byte. byte < 128) (λ byte it. grind (arith, nat_tests)) digits h
+word_ascii (first ∷ rest) h = (grind (arith, nat_tests, h.0), each_weaker (λ byte. (is_letter byte || is_digit byte) ≡ true) (λ byte. byte < 128) (λ byte it. grind (arith, nat_tests)) rest h.1)
 
 sign_ascii : (sign : Symbol) → AllByRecursion (λ byte. byte < 128) (symbol_text sign)
 sign_ascii DoubleColon = omega arith
@@ -157,7 +145,7 @@ same_ascii one two same h = subst (λ (t : List ℕ). AllByRecursion (λ byte. b
 token_ascii : (lexeme : Lexeme) (text : List ℕ) → IsProper lexeme → Stands lexeme (text ++ []) [] → AllByRecursion (λ byte. byte < 128) text
 token_ascii (name it) text proper stands = same_ascii text it stands.0 (word_ascii it stands.1.0)
 token_ascii (word it) text proper stands = same_ascii text (word_text it) stands.0 (word_ascii (word_text it) stands.1.0)
-token_ascii (number it) text proper stands = same_ascii text stands.0 stands.1 (digits_ascii stands.0 stands.2.1)
+token_ascii (number it) text proper stands = same_ascii text stands.0 stands.1 (each_weaker (λ byte. is_digit byte ≡ true) (λ byte. byte < 128) (λ byte it. grind (arith, nat_tests)) stands.0 stands.2.1)
 token_ascii (symbol it) text proper stands = same_ascii text (symbol_text it) stands.0 (sign_ascii it)
 token_ascii unknown text proper stands = absurd proper
 

@@ -1,6 +1,12 @@
--- What is read as an expression or a block can be written.
-use Rattle.std.proofs.Common.{◌≡◌, ◌≤◌, ◌<◌, ℕ, suc, max, List, [], ◌∷◌, ◌++◌, length, Some, refl, sym, ap, subst, ◌∙◌}
-use Rattle.std.specs.List.{flat_map}
+-- What the tokens of a text hold; what is read as an expression or a block can be written.
+use Rattle.std.proofs.Common.{◌≡◌, ◌≢◌, ◌≤◌, ◌+◌, ◌-◌, ℕ, nat_lt, if◌then◌else◌, List, [], ◌∷◌, ◌++◌, length, subst, arith, ◌<◌, suc, max, Some, refl, sym, ap, ◌∙◌}
+use Rattle.std.proofs.lemmas.Bool.Decides.{nat_tests}
+use Rattle.std.specs.Prelude.{⊤}
+use Rattle.std.specs.List.{AllByRecursion, flat_map}
+use Rattle.syntax.specs.declared.token.Word.{Word}
+use Rattle.syntax.specs.Tokens.{Lexeme, name, number, word, symbol, unknown, GREATEST, IsWordText, word_text, Stands, Spot, AreTokens}
+use Rattle.syntax.specs.Grammar.{Position, Expr, sum_alone, compared, Sum, prod_alone, added, Prod, unary_alone, multiplied, Unary, negated, literal, variable, bracketed, Sums, no_sums, sums, Key, Statement, own, assigned, if_alone, if_else, for, Statements, no_more, and_then, Get, Put, put_item, put_tag}
+use Rattle.syntax.specs.Spelled.{Piece, plain, at, IsPiece, ArePieces, a_sign, expr_pieces, sum_pieces, prod_pieces, unary_pieces, sums_pieces, statement_pieces, statements_pieces, get_pieces, put_pieces}
 use Rattle.std.proofs.lemmas.Option.{slice_get_within}
 use Rattle.steptree.specs.Tree.{Expression, NamedExpression, Number, Variable, Negation, Operation, Block, NamedBlock, End, Assign, If, For, PutItem, PutTag}
 use Rattle.steptree.specs.Tree as tree
@@ -9,20 +15,65 @@ use Rattle.steptree.specs.Names.{Text, slot_of}
 use Rattle.steptree.specs.Resolved.{IsExpression, AreExpressions, IsBlock, IsKey as IsKeyOf}
 use Rattle.syntax.specs.declared.token.Symbol.TheVariants as sign
 use Rattle.syntax.specs.declared.limits.TheConstants.{MOST_DEPTH, MOST_BRACES}
-use Rattle.syntax.specs.Grammar.{Position, Expr, sum_alone, compared, Sum, prod_alone, added, Prod, unary_alone, multiplied, Unary, negated, literal, variable, bracketed, Sums, no_sums, sums, Key, Statement, own, assigned, if_alone, if_else, for, Statements, no_more, and_then, Get, Put, put_item, put_tag}
 use Rattle.syntax.specs.Limits.{expr_depth, sum_depth, prod_depth, unary_depth, expr_first, sum_first, expr_within, sum_within, depth_limits, expr_limits, sum_limits, sums_limits, key_limits, statement_limits, statements_limits, get_limits, put_limits}
-use Rattle.syntax.specs.Spelled.{Piece, a_sign, expr_pieces, sum_pieces, prod_pieces, unary_pieces, sums_pieces, statement_pieces, statements_pieces, get_pieces, put_pieces}
 use Rattle.syntax.specs.Tree.{AreAll, IsExpr, IsSum, IsProd, IsUnary, AreSums, IsStatement, AreStatements, IsGet, IsPut, IsKey}
 use Rattle.graph.specs.Textual.{depth_of, IsSpelled, IsTextExpression, AreComponents, IsReadBlock, IsWriteBlock}
 use Rattle.graph.proofs.Faultless.{first_empty, second_empty}
 use Rattle.graph.proofs.Marks.{at_place}
-use Rattle.graph.proofs.SoundTokens.{AreSound, front, rear, kept_to}
 use Rattle.steptree.specs.Nameable.{Collection, Nameable}
 use Rattle.graph.proofs.SmallTrees.{room}
 
+abbrev pub IsSound : Lexeme → Type 0
+IsSound (name text) = IsWordText text × ((kept : Word) → text ≢ word_text kept)
+IsSound (number value) = value ≤ GREATEST
+IsSound _ = ⊤
+
+abbrev pub IsSoundPiece : Piece → Type 0
+IsSoundPiece (plain lexeme) = IsSound lexeme
+IsSoundPiece (at position lexeme) = IsSound lexeme
+
+abbrev pub AreSound : List Piece → Type 0
+AreSound pieces = AllByRecursion IsSoundPiece pieces
+
+stands_sound : (lexeme : Lexeme) (bytes rest : List ℕ) → Stands lexeme bytes rest → IsSound lexeme
+stands_sound (name text) bytes rest stands = (stands.1.0, stands.2)
+stands_sound (number value) bytes rest stands = stands.3
+stands_sound (word kept) bytes rest stands = tt
+stands_sound (symbol sign) bytes rest stands = tt
+stands_sound unknown bytes rest stands = tt
+
+-- each piece that the tokens are derived from is sound too
+pub pieces_sound : (from : ℕ) (bytes : List ℕ) (spots : List Spot) (pieces : List Piece) → AreTokens from bytes spots → ArePieces pieces spots → AreSound pieces
+pieces_sound from bytes [] [] tokens are = tt
+pieces_sound from bytes (spot ∷ spots) (piece ∷ pieces) tokens are =
+    (one piece are.0, pieces_sound (spot.1 + (length tokens.1 - length tokens.2)) tokens.2 spots pieces tokens.7 are.1)
+  where
+    sound : IsSound spot.0
+    sound = stands_sound spot.0 tokens.1 tokens.2 tokens.6
+
+    one : (it : Piece) → IsPiece it spot → IsSoundPiece it
+    one (plain lexeme) is = subst IsSound is sound
+    one (at position lexeme) is = subst IsSound is.0 sound
+pieces_sound _ _ _ _ _ are = absurd (assumption)
+
+-- ---- parts
+
+-- the pieces in front, and the pieces after them
+pub front : (xs ys : List Piece) → AreSound (xs ++ ys) → AreSound xs
+front [] ys all = tt
+front (x ∷ xs) ys all = (all.0, front xs ys all.1)
+
+pub rear : (xs ys : List Piece) → AreSound (xs ++ ys) → AreSound ys
+rear [] ys all = all
+rear (x ∷ xs) ys all = rear xs ys all.1
+
+-- a limit that is not exceeded
+pub kept_to : (most it : ℕ) (place : Position) → (if nat_lt most it then place ∷ [] else []) ≡ [] → it ≤ most
+kept_to most it place none = grind (arith, nat_tests)
+
 module _ (names : List Text) where
-  pub slot_within : (name : Name) (slot : ℕ) → slot_of names name ≡ Some slot → slot < length names
-  slot_within name slot found = slice_get_within names slot name.text.now (at_place names name.text.now slot found)
+  pub slot_within : (called : Name) (slot : ℕ) → slot_of names called ≡ Some slot → slot < length names
+  slot_within called slot found = slice_get_within names slot called.text.now (at_place names called.text.now slot found)
 
   -- its numbers and variables are good, and it is as deep as its derivation
   abbrev IsRead : Expression → ℕ → Type 0
@@ -55,7 +106,7 @@ module _ (names : List Text) where
         let one = unary_read unary it e sound.1 is means in
         (one.0, ap suc one.1)
     unary_read (literal position value) (Number m) (tree.Number n) sound is means = ((value, means ∙ is, sound.0), refl)
-    unary_read (variable it) (Variable name) (tree.Variable slot) sound is means = (slot_within name slot means, refl)
+    unary_read (variable it) (Variable called) (tree.Variable slot) sound is means = (slot_within called slot means, refl)
     unary_read (bracketed position expr) it e sound is means = expr_read expr it e (search front) is means
     unary_read _ _ _ _ is means = absurd (assumption)
 
@@ -91,7 +142,7 @@ module _ (names : List Text) where
       (component_read first it e (search (front, rear)) (search first_empty) are.0 means.0, more_read more them es (search (front, rear)) (search second_empty) are.1 means.1)
   components_read _ _ _ _ _ are means = absurd (assumption)
 
--- a kind of block among this number of names and inside these braces, whatever statements of its own it has
+-- a kind of block among this index of names and inside these braces, whatever statements of its own it has
 record IsKind (many : ℕ) (Kind : ℕ → Block → Type 0) : Type 0 where
   ends : (around : ℕ) → Kind around tree.End
   assigns : (around slot : ℕ) (value : Expression) (rest : Block) → slot < many → IsTextExpression many value → Kind around rest → Kind around (tree.Assign slot value rest)
@@ -116,8 +167,8 @@ module _ (names : List Text) (sheet : Nameable) where
       statement_read : (around : ℕ) (statement : Statement B) (after : Statements B) (block : NamedBlock) (b : Block) → Rests names sheet Kind around (AreStatements IsOwn after) → AreSound (statement_pieces own_pieces statement)
           → statement_limits own_limits around statement ≡ [] → IsStatement IsOwn statement block (AreStatements IsOwn after) → IsBlock names sheet block b → Kind around b
       statement_read around (own it) after block b rests sound none is means = own_read around it block b (AreStatements IsOwn after) rests sound none is means
-      statement_read around (assigned it expr) after (Assign name value rest) (tree.Assign slot e more) rests sound none is means =
-          kind.assigns around slot e more (slot_within names name slot means.0) (expression_read names expr value e (search (front, rear)) (search (first_empty, second_empty)) is.1 means.1) (rests rest more is.2 means.2)
+      statement_read around (assigned it expr) after (Assign called value rest) (tree.Assign slot e more) rests sound none is means =
+          kind.assigns around slot e more (slot_within names called slot means.0) (expression_read names expr value e (search (front, rear)) (search (first_empty, second_empty)) is.1 means.1) (rests rest more is.2 means.2)
       statement_read around (if_alone condition brace first) after (If value one two rest) (tree.If e c d more) rests sound none is means =
           kind.chooses around e c d more
           (expression_read names condition value e (search (front, rear)) (search (first_empty, second_empty)) is.0 means.0) (room MOST_BRACES around brace (search (first_empty, second_empty)))
@@ -127,8 +178,8 @@ module _ (names : List Text) (sheet : Nameable) where
           (expression_read names condition value e (search (front, rear)) (search (first_empty, second_empty)) is.0 means.0) (room MOST_BRACES around brace (search (first_empty, second_empty)))
           (statements_read (suc around) first one c (search (front, rear)) (search (first_empty, second_empty)) is.1 means.1)
           (statements_read (suc around) second two d (search (front, rear)) (search (first_empty, second_empty)) is.2 means.2) (rests rest more is.3 means.3)
-      statement_read around (for it from to brace inner) after (For name low high one rest) (tree.For slot e f c more) rests sound none is means =
-          kind.repeats around slot e f c more (slot_within names name slot means.0)
+      statement_read around (for it from to brace inner) after (For called low high one rest) (tree.For slot e f c more) rests sound none is means =
+          kind.repeats around slot e f c more (slot_within names called slot means.0)
           (expression_read names from low e (search (front, rear)) (search (first_empty, second_empty)) is.1 means.1) (expression_read names to high f (search (front, rear)) (search (first_empty, second_empty)) is.2 means.2)
           (room MOST_BRACES around brace (search (first_empty, second_empty)))
           (statements_read (suc around) inner one c (search (front, rear)) (search (first_empty, second_empty)) is.3 means.3) (rests rest more is.4 means.4)
@@ -143,9 +194,9 @@ module _ (names : List Text) (sheet : Nameable) where
 
   -- ---- keys, gets and puts
 
-  key_read : (collections : List Collection) (key : Key) (it : Name) (parts : List NamedExpression) (number : ℕ) (es : List Expression) → AreSound (sums_pieces key.components) → key_limits key ≡ [] → IsKey key it parts → IsKeyOf names collections it parts number es
+  key_read : (collections : List Collection) (key : Key) (it : Name) (parts : List NamedExpression) (index : ℕ) (es : List Expression) → AreSound (sums_pieces key.components) → key_limits key ≡ [] → IsKey key it parts → IsKeyOf names collections it parts index es
       → AreComponents (length names) es
-  key_read collections key it parts number es sound none is means = components_read names key.components parts es sound (search second_empty) is.1 means.1
+  key_read collections key it parts index es sound none is means = components_read names key.components parts es sound (search second_empty) is.1 means.1
 
   read_kind : IsKind (length names) (IsReadBlock (length names))
   read_kind = assumption
@@ -155,9 +206,9 @@ module _ (names : List Text) (sheet : Nameable) where
 
   get_read : (around : ℕ) (get : Get) (block : NamedBlock) (b : Block) (Rest : NamedBlock → Type 0) → Rests names sheet (IsReadBlock (length names)) around Rest → AreSound (get_pieces get) → get_limits get ≡ [] → IsGet get block Rest
       → IsBlock names sheet block b → IsReadBlock (length names) around b
-  get_read around get (tree.Get name named key rest) (tree.Get slot collection es more) Rest rests sound none is means =
+  get_read around get (tree.Get called named key rest) (tree.Get slot collection es more) Rest rests sound none is means =
       let parts : AreSound (sums_pieces get.item.components ++ a_sign sign.CloseBracket ++ a_sign sign.Semicolon) = sound.1.1.1.1.1 in
-      (slot_within names name slot means.0, key_read sheet.items get.item named key.items collection.0 es (search (front, parts)) (search second_empty) is.1 means.1, rests rest more is.2 means.2)
+      (slot_within names called slot means.0, key_read sheet.items get.item named key.items collection.0 es (search (front, parts)) (search second_empty) is.1 means.1, rests rest more is.2 means.2)
   get_read _ _ _ _ _ _ _ _ is means = absurd (assumption)
 
   put_read : (around : ℕ) (put : Put) (block : NamedBlock) (b : Block) (Rest : NamedBlock → Type 0) → Rests names sheet (IsWriteBlock (length names)) around Rest → AreSound (put_pieces put) → put_limits put ≡ [] → IsPut put block Rest

@@ -17,8 +17,8 @@ use Rattle.syntax.specs.Tree.{AreAll, IsDeclaration, IsStep}
 use Rattle.graph.specs.Textual.{IsGraphName, AreNames, IsReadBlock, IsWriteBlock, IsTextStep, ReadsTextual}
 use Rattle.graph.specs.Tree.{items_of, tags_of, text_of, sheet_in, IsStepOf}
 use Rattle.graph.proofs.Faultless.{first_empty, second_empty, later, own_names, names_in_step_apart, items_apart, tags_apart, step_names_apart, no_step}
-use Rattle.graph.proofs.Places.{own_place}
-use Rattle.graph.proofs.SoundTokens.{IsSound, AreSound, front, rear, kept_to, pieces_sound}
+use Rattle.graph.proofs.Texts.{own_place}
+use Rattle.graph.proofs.ReadBlocks.{IsSound, AreSound, front, rear, kept_to, pieces_sound, read_block_read, write_block_read}
 use Rattle.std.proofs.lemmas.Grind.{flat_map-append}
 use Rattle.terms.specs.declared.key.TheConstants.{MAX_COMPONENTS}
 use Rattle.steptree.specs.declared.step.Step.{Step as NamedStep}
@@ -26,7 +26,6 @@ use Rattle.syntax.specs.declared.tree.Tree.{Tree}
 use Rattle.graph.specs.Faults.{repeated, step_faults}
 use Rattle.graph.specs.Graph.{Step, Graph}
 use Rattle.graph.proofs.AlikeTrees.{names_are}
-use Rattle.graph.proofs.ReadBlocks.{read_block_read, write_block_read}
 use Rattle.graph.proofs.SmallTrees.{small_step, is_small}
 use Rattle.graph.proofs.Lists.{each_of_both, in_common, each_weaker, each_mapped}
 use Rattle.steptree.specs.Nameable.{Collection}

@@ -19,13 +19,11 @@ use Rattle.std.specs.declared.alloc.Global.{Global}
 use Rattle.syntax.specs.declared.tree.Relation.TheVariants as related
 use Rattle.terms.specs.declared.name.TagCollection.{TagCollection}
 use Rattle.graph.specs.declared.fault.GraphError.TheVariants.{Redeclared, UnknownName, StepMissing, TwoPrescribers}
-use Rattle.graph.proofs.Faultless.{first_empty, second_empty, first_none, not_so}
-use Rattle.graph.proofs.Marks.{marks_stay, one_marked, rows_stay, two_marked}
-use Rattle.graph.proofs.Prescribers.{prescribers_stay, one_prescribed, both_there}
+use Rattle.graph.proofs.Faultless.{first_empty, second_empty, first_none, not_so, in_front, empty_in_front}
+use Rattle.graph.proofs.Marks.{marks_stay, one_marked, rows_stay, two_marked, prescribers_stay, one_prescribed, both_there}
 use Rattle.graph.proofs.Texts.{same_both_ways}
 use Rattle.std.proofs.lemmas.List.{take_more, length-replicate, length-map, drop_all, drop_more, take_all}
 use Rattle.graph.specs.declared.relations.Numbers.{Numbers}
-use Rattle.graph.proofs.FirstFaults.{in_front, empty_in_front}
 
 -- ---- faults
 

@@ -13,7 +13,7 @@ use Rattle.graph.specs.Faults.{At, declaration_faults, relation_faults, step_fau
 use Rattle.graph.specs.Numbered.{names_numbered, found}
 use Rattle.graph.specs.Placed.{IsFirst}
 use Rattle.graph.specs.Tree.{items_of, tags_of, text_of, step_names}
-use Rattle.graph.proofs.FirstFaults.{in_front, empty_in_front, behind_none}
+use Rattle.graph.proofs.Faultless.{in_front, empty_in_front, behind_none}
 use Rattle.graph.proofs.Seen.{items_named}
 use Rattle.steptree.specs.declared.step.Step.{Step as NamedStep}
 use Rattle.syntax.specs.declared.tree.Relation.{Relation}
@@ -82,9 +82,6 @@ module _ (ds : List Declaration) where
 
       pub tag_fault : (fault : PlacedFault) → get_or ds index default ≡ declared.Tag name components → IsFirst (again (names_numbered tags.numbered) name) fault → IsFirst (declaration_faults [] [] ds) fault
       tag_fault fault is first = subst (λ (l : List At). IsFirst l fault) (sym (here _ is)) (in_front (again (names_numbered tags.numbered) name) _ fault first)
-
-  pub all_declared : (index : ℕ) (items tags : Collections) → index ≡ length ds → SoFar index items tags → declaration_faults [] [] ds ≡ []
-  all_declared index items tags end so = so.left ∙ ap (declaration_faults _ _) (drop_all index ds (omega (arith, end)))
 
   -- nothing is left at the end
   pub all_collected : (of : List Declaration → List Collection) (index : ℕ) (them : Collections) → of [] ≡ [] → index ≡ length ds → AreLeft (of (drop index ds)) (of ds) them → AreCollected (of ds) them

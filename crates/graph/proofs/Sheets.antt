@@ -23,15 +23,14 @@ use Rattle.graph.specs.Marks.{mark_at, mark_between, AreMarks, AreRows, IsPrescr
 use Rattle.graph.specs.Resolved.{IsResolved}
 use Rattle.graph.specs.Small.{IsSmall, IsSmallStep}
 use Rattle.graph.specs.Tree.{text_of, tags_of, step_names, is_read, is_item_put, is_tag_put, each_of, prescriber_of, sheet_in}
-use Rattle.graph.proofs.Faultless.{items_apart, tags_apart, step_names_apart, no_arity}
+use Rattle.graph.proofs.Faultless.{items_apart, tags_apart, step_names_apart, no_arity, in_front}
 use Rattle.graph.proofs.Lists.{each_at, each_found, opened, in_common, are_both, there_at, taken}
 use Rattle.graph.proofs.Marks.{stood}
-use Rattle.graph.proofs.Places.{own_place}
+use Rattle.graph.proofs.Texts.{own_place}
 use Rattle.steptree.specs.declared.checker.CheckFault.{CheckFault}
 use Rattle.graph.specs.declared.graph.Prescribed.{Prescribed}
 use Rattle.graph.specs.Numbered.{names_numbered}
 use Rattle.graph.specs.Reads.{body_faults}
-use Rattle.graph.proofs.FirstFaults.{in_front}
 
 -- ---- marks
 

@@ -1,6 +1,6 @@
 use Rattle.std.proofs.Common.{arith}
 use Rattle.graph.proofs.Sheets.{body_first, next_checked, name_is_new, all_checked, its_place}
-use Rattle.graph.proofs.FirstFaults.{fault_passed_on}
+use Rattle.graph.proofs.Faultless.{fault_passed_on}
 use Rattle.graph.proofs.bodies.check_bodies.Goals as goal
 
 pub returns-in_err-checked : goal.returns-in_err-checked

@@ -7,7 +7,7 @@ use Rattle.steptree.specs.Sheet.{BodyKeepsTo}
 use Rattle.graph.specs.CheckedSteps.{IsBodyFault, IsCheckedStep, IsPrescribedBy}
 use Rattle.graph.specs.Faults.{body_fault}
 use Rattle.graph.specs.Placed.{IsFirst}
-use Rattle.graph.proofs.FirstFaults.{fault_passed_on}
+use Rattle.graph.proofs.Faultless.{fault_passed_on}
 use Rattle.graph.proofs.Sheets.{of_number, within_limits, is_sheet, its_reads, its_item_puts, its_tag_puts, prescribed_by}
 use Rattle.graph.proofs.bodies.check_step.Goals as goal
 

@@ -1,5 +1,5 @@
 use Rattle.std.proofs.Common.{◌∙◌, inl, inr, length, refl, ap, arith}
-use Rattle.graph.proofs.FirstFaults.{err_passed_on, in_front}
+use Rattle.graph.proofs.Faultless.{err_passed_on, in_front}
 use Rattle.graph.proofs.GraphsOfTrees.{all_prescribed, few_steps, so_many_tags, is_kept, is_its_graph, graph_rowed, spelled}
 use Rattle.graph.proofs.build.graph_of.Goals as goal
 use Rattle.graph.specs.Faults.{tree_faults}

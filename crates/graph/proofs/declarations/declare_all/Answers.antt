@@ -1,7 +1,7 @@
 use Rattle.std.proofs.Common.{refl, arith}
 use Rattle.graph.specs.Tree.{items_of, tags_of}
 use Rattle.graph.proofs.Resolving.{item_declared, tag_declared, item_fault, tag_fault, all_collected}
-use Rattle.graph.proofs.FirstFaults.{fault_passed_on}
+use Rattle.graph.proofs.Faultless.{fault_passed_on}
 use Rattle.graph.proofs.declarations.declare_all.Goals.{in-Item+in_ok-declare-in-Item, in-Tag+in_ok-declare-in-Tag}
 use Rattle.graph.proofs.declarations.declare_all.Goals as goal
 

@@ -1,5 +1,5 @@
 use Rattle.std.proofs.Common.{arith}
-use Rattle.graph.proofs.FirstFaults.{fault_passed_on}
+use Rattle.graph.proofs.Faultless.{fault_passed_on}
 use Rattle.graph.proofs.Relating.{begun, next_related, first_related, all_related}
 use Rattle.graph.proofs.relations.relate_all.Goals as goal
 

@@ -1,5 +1,5 @@
 use Rattle.std.proofs.Common.{◌∙◌, refl, sym, ap, length}
-use Rattle.graph.proofs.FirstFaults.{fault_passed_on}
+use Rattle.graph.proofs.Faultless.{fault_passed_on}
 use Rattle.graph.proofs.Resolving.{relation_first, related, prescribers_long, step_first, no_fault}
 use Rattle.graph.proofs.resolved.resolve.Goals as goal
 

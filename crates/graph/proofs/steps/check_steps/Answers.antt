@@ -1,6 +1,6 @@
 use Rattle.std.proofs.Common.{◌∙◌, arith}
 use Rattle.graph.proofs.Checking.{first_prescription, first_name, next_step, all_checked}
-use Rattle.graph.proofs.FirstFaults.{fault_passed_on}
+use Rattle.graph.proofs.Faultless.{fault_passed_on}
 use Rattle.graph.proofs.steps.check_steps.Goals as goal
 
 pub returns-in_err-is_prescribed : goal.returns-in_err-is_prescribed

@@ -1,4 +1,4 @@
-use Rattle.graph.proofs.FirstFaults.{fault_passed_on}
+use Rattle.graph.proofs.Faultless.{fault_passed_on}
 use Rattle.graph.proofs.Checking.{first_of_parameters, of_variables}
 use Rattle.graph.proofs.steps.names_differ.Goals as goal
 

@@ -1,6 +1,6 @@
 use Rattle.std.proofs.Common.{◌∙◌}
 use Rattle.std.specs.String.{string_bytes}
-use Rattle.graph.proofs.Places.{looked_up}
+use Rattle.graph.proofs.Texts.{looked_up}
 use Rattle.graph.proofs.numbered.Numbered.get.Goals as goal
 
 pub returns : goal.returns

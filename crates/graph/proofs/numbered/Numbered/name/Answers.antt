@@ -1,6 +1,6 @@
 use Rattle.std.proofs.Common.{◌∙◌, ap, sym, slice_get}
 use Rattle.std.specs.String.{string_bytes}
-use Rattle.graph.proofs.Places.{name_of_entry, no_name, once}
+use Rattle.graph.proofs.Texts.{name_of_entry, no_name, once}
 use Rattle.graph.proofs.numbered.Numbered.name.Goals as goal
 
 pub returns-in-Some-clause-name : goal.returns-in-Some-clause-name

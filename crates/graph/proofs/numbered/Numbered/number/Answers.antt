@@ -1,6 +1,6 @@
 use Rattle.std.proofs.Common.{◌∙◌}
 use Rattle.std.specs.String.{string_bytes}
-use Rattle.graph.proofs.Places.{position_of_name}
+use Rattle.graph.proofs.Texts.{position_of_name}
 use Rattle.graph.proofs.numbered.Numbered.number.Goals as goal
 
 pub returns-clause-number : goal.returns-clause-number
