@@ -1,9 +1,10 @@
 -- Lists, one element after another.
-use Rattle.std.proofs.Common.{◌≡◌, ◌<◌, ℕ, zero, suc, ◌+◌, List, [], ◌∷◌, length, map, drop, get_or, Some, slice_get, refl, sym, ap, subst, ◌∙◌, arith, Bool, ◌||◌, ◌++◌, take}
+use Rattle.std.proofs.Common.{◌≡◌, ◌<◌, ℕ, zero, suc, ◌+◌, List, [], ◌∷◌, length, map, drop, get_or, Some, slice_get, refl, sym, ap, subst, ◌∙◌, Bool, ◌||◌, ◌++◌, take}
 use Rattle.std.specs.List.{AllByRecursion, list_any, flat_map}
 use Rattle.std.proofs.lemmas.Option.{slice_get_within, get_or_from_slice_get, slice_get-get_or}
 use Rattle.syntax.specs.Tree.{AreAll}
 use Rattle.std.proofs.lemmas.List.{drop_more, take_more}
+use Rattle.std.proofs.lemmas.List.Elements.{All-from_recursion}
 
 -- what is left at an index: the element there, and those after it
 pub opened : {X : Type 0} (xs : List X) (index : ℕ) (this : X) → index < length xs → this ≡ get_or xs index this → drop index xs ≡ this ∷ drop (index + 1) xs
@@ -15,9 +16,7 @@ taken xs index this within is = take_more xs index this within ∙ ap (λ x. tak
 
 -- what holds of each element holds of the one at an index
 pub each_at : {X : Type 0} (P : X → Type 0) (xs : List X) (index : ℕ) (default : X) → index < length xs → AllByRecursion P xs → P (get_or xs index default)
-each_at P [] index default within all = absurd (omega arith)
-each_at P (x ∷ xs) zero default within all = all.0
-each_at P (x ∷ xs) (suc index) default within all = each_at P xs index default (omega arith) all.1
+each_at P xs index default within all = All-from_recursion P xs all index default within
 
 pub each_found : {X : Type 0} (P : X → Type 0) (xs : List X) (index : ℕ) (this : X) → slice_get xs index ≡ Some this → AllByRecursion P xs → P this
 each_found P xs index this there all = subst P (get_or_from_slice_get xs index this this there) (each_at P xs index this (slice_get_within xs index this there) all)

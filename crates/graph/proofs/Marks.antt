@@ -15,7 +15,7 @@ use Rattle.graph.specs.Marks.{mark_at, mark_between, with_mark, with_mark_betwee
 use Rattle.graph.proofs.Lists.{each_at}
 use Rattle.graph.proofs.Texts.{one_text, itself}
 use Rattle.std.proofs.lemmas.Bool.{eqb-true, eq-eqb, true≢false}
-use Rattle.std.proofs.lemmas.Grind.{get_or-set_at}
+use Rattle.std.proofs.lemmas.Grind.{get_or-set_at, common_steps}
 use Rattle.steptree.specs.declared.step.Name.{Name}
 use Rattle.terms.specs.declared.name.TagCollection.{TagCollection}
 use Rattle.syntax.specs.declared.tree.Relation.TheVariants as related
@@ -43,11 +43,7 @@ one_place (first ∷ names) name other (suc place) there = grind (arith, nat_tes
 -- ---- marks
 
 marked : (row : List Bool) (place other : ℕ) → place < length row → get_or (set row place true) other false ≡ get_or row other false || (other == place)
-marked [] place other within = absurd (omega arith)
-marked (mark ∷ row) zero zero within = grind arith
-marked (mark ∷ row) zero (suc other) within = grind (arith, nat_tests)
-marked (mark ∷ row) (suc place) zero within = grind (arith, nat_tests)
-marked (mark ∷ row) (suc place) (suc other) within = grind (arith, nat_tests, marked row place other)
+marked row place other within = grind (arith, nat_tests, common_steps)
 
 marked_at : (row : List Bool) (place : ℕ) (its : Option ℕ) → place < length row → mark_at (set row place true) its ≡ mark_at row its || is_place its place
 marked_at row place None within = refl

@@ -93,17 +93,15 @@ first_or_later false first list number it = inr it
 
 -- ---- steps numbered from a start
 
-step_is_listed : (start : ℕ) (steps : List Step) (tag number : ℕ) (step : Step) → slice_get steps number ≡ Some step → step.prescriber ≡ tag → Contains (prescribed_from start steps tag) (start + number)
-step_is_listed start [] tag number step there prescribed = absurd (cc)
-step_is_listed start (first ∷ steps) tag zero step there prescribed =
+step_is_listed : (start : ℕ) (steps : List Step) (tag place number : ℕ) (step : Step) → slice_get steps place ≡ Some step → step.prescriber ≡ tag → start + place ≡ number → Contains (prescribed_from start steps tag) number
+step_is_listed start [] tag place number step there prescribed at = absurd (cc)
+step_is_listed start (first ∷ steps) tag zero number step there prescribed at =
     let same : first ≡ step = cc in
-    let none : start ≡ start + 0 = omega arith in
-    subst (Contains (prescribed_from start (first ∷ steps) tag)) none
+    let here : start ≡ number = omega (arith, at) in
+    subst (Contains (prescribed_from start (first ∷ steps) tag)) here
     (is_first (first.prescriber == tag) start (prescribed_from (suc start) steps tag) (eq-eqb first.prescriber tag (ap (λ (s : Step). s.prescriber) same ∙ prescribed)))
-step_is_listed start (first ∷ steps) tag (suc number) step there prescribed =
-    let next : suc start + number ≡ start + suc number = omega arith in
-    is_later (first.prescriber == tag) start (prescribed_from (suc start) steps tag) (start + suc number)
-    (subst (Contains (prescribed_from (suc start) steps tag)) next (step_is_listed (suc start) steps tag number step there prescribed))
+step_is_listed start (first ∷ steps) tag (suc place) number step there prescribed at =
+    is_later (first.prescriber == tag) start (prescribed_from (suc start) steps tag) number (step_is_listed (suc start) steps tag place number step there prescribed (omega (arith, at)))
 
 -- the tag collection prescribes the step with this number; numbers count from the start
 abbrev IsStepOf : ℕ → List Step → ℕ → ℕ → Type 0
@@ -113,23 +111,15 @@ listed_is_step : (start : ℕ) (steps : List Step) (tag number : ℕ) → Contai
 listed_is_step start [] tag number it = absurd (omega (arith, it.1))
 listed_is_step start (first ∷ steps) tag number it =
     elim (first_or_later (first.prescriber == tag) start (prescribed_from (suc start) steps tag) number it) [
-      | inl here ↦ (0, first, refl, eqb-true first.prescriber tag here.0, from_zero here.1)
-      | inr later ↦ (let found = listed_is_step (suc start) steps tag number later in (suc found.0, found.1, found.2, found.3, one_on found.0 found.4))
+      | inl here ↦ (0, first, refl, eqb-true first.prescriber tag here.0, omega (arith, here.1))
+      | inr later ↦ (let found = listed_is_step (suc start) steps tag number later in (suc found.0, found.1, found.2, found.3, omega (arith, found.4)))
     ]
-  where
-    from_zero : start ≡ number → start + 0 ≡ number
-    from_zero same = omega (arith, same)
-
-    one_on : (place : ℕ) → suc start + place ≡ number → start + suc place ≡ number
-    one_on place same = omega (arith, same)
 
 pub prescribes_listed : PrescribesListed
 prescribes_listed g tag instance = (listed, prescribed)
   where
     listed : Prescribes g tag instance → Contains (prescribed_by g tag.collection.0) instance.collection.0 × (tag.key ≡ instance.key)
-    listed it =
-        let from : 0 + instance.collection.0 ≡ instance.collection.0 = omega arith in
-        (subst (Contains (prescribed_by g tag.collection.0)) from (step_is_listed 0 g.steps tag.collection.0 instance.collection.0 it.step it.is_step it.prescriber), it.key)
+    listed it = (step_is_listed 0 g.steps tag.collection.0 instance.collection.0 instance.collection.0 it.step it.is_step it.prescriber (omega arith), it.key)
 
     prescribed : Contains (prescribed_by g tag.collection.0) instance.collection.0 × (tag.key ≡ instance.key) → Prescribes g tag instance
     prescribed it =

@@ -130,26 +130,14 @@ between operator.LessOrEqual left right = compared (prod_alone (unary_alone left
 between operator.Greater left right = compared (prod_alone (unary_alone left)) greater (prod_alone (unary_alone right))
 between operator.GreaterOrEqual left right = compared (prod_alone (unary_alone left)) greater_or_equal (prod_alone (unary_alone right))
 
-between_pieces : (op : Operator) (left right : Unary) → expr_pieces (between op left right) ≡ unary_pieces left ++ a_sign (operator_sign op) ++ unary_pieces right
+-- its tokens, its depth, its limits and its tree
+between_is : (op : Operator) (left right : Unary) → (expr_pieces (between op left right) ≡ unary_pieces left ++ a_sign (operator_sign op) ++ unary_pieces right)
+    × (expr_depth (between op left right) ≡ suc (max (unary_depth left) (unary_depth right)))
+    × ((around : ℕ) → expr_within around (between op left right) ≡ unary_within around left ++ unary_within around right)
+    × ((one two : NamedExpression) → IsUnary left one → IsUnary right two → IsExpr (between op left right) (Operation op one two))
 unfolding between operator_sign
-between_pieces operator.Add left right = refl
-between_pieces _ left right = refl
-
-between_depth : (op : Operator) (left right : Unary) → expr_depth (between op left right) ≡ suc (max (unary_depth left) (unary_depth right))
-unfolding between
-between_depth operator.Add left right = refl
-between_depth _ left right = refl
-
-between_within : (around : ℕ) (op : Operator) (left right : Unary) → expr_within around (between op left right) ≡ unary_within around left ++ unary_within around right
-unfolding between
-between_within around operator.Add left right = refl
-between_within around _ left right = refl
-
-between_is : (op : Operator) (left right : Unary) (one two : NamedExpression) → IsUnary left one → IsUnary right two
-    → IsExpr (between op left right) (Operation op one two)
-unfolding between
-between_is operator.Add left right one two x y = (refl, x, y)
-between_is _ left right one two x y = (refl, x, y)
+between_is operator.Add left right = (refl, refl, λ around. refl, λ one two x y. (refl, x, y))
+between_is _ left right = (refl, refl, λ around. refl, λ one two x y. (refl, x, y))
 
 closed : {place : ℕ} {text : List ℕ} {pieces : List Piece} → Printed never place text pieces → Printed after_sign place text pieces
 closed it = narrowed (λ rest may. anything rest) it
@@ -230,15 +218,15 @@ module _ (g : Graph) (names : List Text) (are : AreNames names) where
       let two = expression_printed right (place + 1 + length (up_to op left)) is.1 in
       let all = and (sign_and_space (and (and_space one.printed) (printed_operator (place + 1 + length (expression_text g names left ++ codes " ")) op))) two.printed in record {
         unary = bracketed place (between op one.unary two.unary);
-        printed = narrowed (λ rest may. anything rest) (in_order (ap (λ (p : List Piece). sign_at place sign.OpenRound ++ p ++ a_sign sign.CloseRound) (sym (between_pieces op one.unary two.unary)))
+        printed = narrowed (λ rest may. anything rest) (in_order (ap (λ (p : List Piece). sign_at place sign.OpenRound ++ p ++ a_sign sign.CloseRound) (sym (between_is op one.unary two.unary).0))
             (inside_rounds (at _ _) (refl, refl) all));
         fronts = λ rest. refl;
-        depth = between_depth op one.unary two.unary ∙ (λ i. suc (max (one.depth i) (two.depth i)));
+        depth = (between_is op one.unary two.unary).1 ∙ (λ i. suc (max (one.depth i) (two.depth i)));
         within = λ around h.
             let inner = no_both _ _ (one.within (suc around) (omega arith)) (two.within (suc around) (omega arith)) in
-            no_both _ _ (no_more_limit MOST_BRACKETS around place (omega (arith, some_depth left))) (between_within (suc around) op one.unary two.unary ∙ inner);
+            no_both _ _ (no_more_limit MOST_BRACKETS around place (omega (arith, some_depth left))) ((between_is op one.unary two.unary).2 (suc around) ∙ inner);
         value = Operation op one.value two.value;
-        is = between_is op one.unary two.unary one.value two.value one.is two.is;
+        is = (between_is op one.unary two.unary).3 one.value two.value one.is two.is;
         resolves = (refl, one.resolves, two.resolves);
       }
 

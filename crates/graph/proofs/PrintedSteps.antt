@@ -31,7 +31,7 @@ use Rattle.graph.proofs.PrintedBlocks.{known, read_printed, write_printed, many_
 use Rattle.graph.proofs.PrintedApart.{Apart, Clear, apart, nowhere, take_each, flipped}
 use Rattle.graph.proofs.PrintedValues.{vec_of, name_of}
 use Rattle.graph.proofs.Lists.{as_many, no_both, each, are_both, each_at, in_common}
-use Rattle.std.proofs.lemmas.Option.{slice_get_within}
+use Rattle.std.proofs.lemmas.Option.{slice_get_within, slice_get-get_or}
 use Rattle.std.proofs.lemmas.Bool.Decides.{nat_tests}
 use Rattle.steptree.specs.declared.sheet.TheConstants.{MOST_COLLECTIONS}
 use Rattle.steptree.specs.Nameable.{Collection}
@@ -40,6 +40,7 @@ use Rattle.graph.specs.Prescribed.{names_of_steps}
 use Rattle.graph.proofs.Texts.{itself}
 use Rattle.std.proofs.lemmas.Simd.{map-map}
 use Rattle.syntax.specs.declared.token.Word.{Word}
+use Rattle.std.proofs.lemmas.List.Elements.{recursion_from_All}
 
 -- ---- names of a step
 
@@ -149,8 +150,7 @@ module _ (g : Graph) (items : AreFew g.items) (tags : AreFew g.tags) (item_names
 
 -- what holds at each index holds of each
 pub all_indexed : {X : Type 0} (Q : X → Type 0) (xs : List X) → ((index : ℕ) (x : X) → slice_get xs index ≡ Some x → Q x) → AllByRecursion Q xs
-all_indexed Q [] it = tt
-all_indexed Q (x ∷ xs) it = (it 0 x refl, all_indexed Q xs (λ index y there. it (suc index) y there))
+all_indexed Q xs it = recursion_from_All Q xs (λ index default within. it index (get_or xs index default) (slice_get-get_or xs index default within))
 
 -- ---- the trees of steps
 
