@@ -14,14 +14,12 @@ use Rattle.graph.specs.Marks.{AreRows, mark_between, mark_at, with_mark, with_ma
 use Rattle.graph.specs.Relations.{AreRelations, Relates, read_faults, put_faults, environment_faults, prescription_faults, AreNumbers, IsUnmarked}
 use Rattle.graph.specs.Tree.{text_of, prescriber_of, is_read, is_item_put, is_tag_put, is_environment_item_put, is_environment_tag_put, is_environment_get}
 use Rattle.graph.proofs.Lists.{any_agree}
-use Rattle.std.proofs.Math.Bool.{and_comm}
 use Rattle.std.specs.declared.alloc.Global.{Global}
 use Rattle.syntax.specs.declared.tree.Relation.TheVariants as related
 use Rattle.terms.specs.declared.name.TagCollection.{TagCollection}
 use Rattle.graph.specs.declared.fault.GraphError.TheVariants.{Redeclared, UnknownName, StepMissing, TwoPrescribers}
 use Rattle.graph.proofs.Faultless.{first_empty, second_empty, first_none, not_so, in_front, empty_in_front}
 use Rattle.graph.proofs.Marks.{marks_stay, one_marked, rows_stay, two_marked, prescribers_stay, one_prescribed, both_there}
-use Rattle.graph.proofs.Texts.{same_both_ways}
 use Rattle.std.proofs.lemmas.List.{take_more, length-replicate, length-map, drop_all, drop_more, take_all}
 use Rattle.graph.specs.declared.relations.Numbers.{Numbers}
 
@@ -45,128 +43,29 @@ module _ (items tags steps : List Text) (before : List Relation) (relation : Rel
   relates faults (Ok value) same none marked related = (sym same ∙ none, related marked (sym same ∙ none))
   relates faults (Err fault) same first marked related = subst (λ (l : List At). IsFirst l fault) same first
 
--- ---- by numbers and by names
-
--- a relation between a step and another name is there before exactly if it is marked between their numbers
-pub marked_before : (is : Text → Text → Relation → Bool) (steps names : List Text) (before : List Relation) (relation : Relation) (rows : List (List Bool)) (step other : Text) (sp op : Option ℕ)
-    → AreRows is steps names before rows → ((one : Relation) → same_relation relation one ≡ is step other one) → sp ≡ place_of steps step → op ≡ place_of names other
-    → list_any (same_relation relation) before ≡ mark_between rows sp op
-marked_before is steps names before relation rows step other sp op are same step_is other_is =
-    any_agree (same_relation relation) (is step other) before same ∙ are.each step other ∙ (λ i. mark_between rows (sym step_is i) (sym other_is i))
-
 module _ (items tags steps : List Text) (before : List Relation) (old : Relations) (are : AreRelations items tags steps before old) where
   -- ---- a relation of another kind
 
-  reads_stay : (relation : Relation) → ((step name : Text) → is_read name step relation ≡ false) → AreRows (λ step item. is_read item step) steps items (before ++ relation ∷ []) (bits old.reads)
+  pub reads_stay : (relation : Relation) → ((step name : Text) → is_read name step relation ≡ false) → AreRows (λ step item. is_read item step) steps items (before ++ relation ∷ []) (bits old.reads)
   reads_stay relation other = rows_stay (λ step item. is_read item step) steps items before relation (bits old.reads) other are.reads
 
-  item_puts_stay : (relation : Relation) → ((step name : Text) → is_item_put step name relation ≡ false) → AreRows is_item_put steps items (before ++ relation ∷ []) (bits old.item_puts)
+  pub item_puts_stay : (relation : Relation) → ((step name : Text) → is_item_put step name relation ≡ false) → AreRows is_item_put steps items (before ++ relation ∷ []) (bits old.item_puts)
   item_puts_stay relation other = rows_stay is_item_put steps items before relation (bits old.item_puts) other are.item_puts
 
-  tag_puts_stay : (relation : Relation) → ((step name : Text) → is_tag_put step name relation ≡ false) → AreRows is_tag_put steps tags (before ++ relation ∷ []) (bits old.tag_puts)
+  pub tag_puts_stay : (relation : Relation) → ((step name : Text) → is_tag_put step name relation ≡ false) → AreRows is_tag_put steps tags (before ++ relation ∷ []) (bits old.tag_puts)
   tag_puts_stay relation other = rows_stay is_tag_put steps tags before relation (bits old.tag_puts) other are.tag_puts
 
-  environment_items_stay : (relation : Relation) → ((name : Text) → is_environment_item_put name relation ≡ false) → AreMarks is_environment_item_put items (before ++ relation ∷ []) old.environment_item_puts.items
+  pub environment_items_stay : (relation : Relation) → ((name : Text) → is_environment_item_put name relation ≡ false) → AreMarks is_environment_item_put items (before ++ relation ∷ []) old.environment_item_puts.items
   environment_items_stay relation other = marks_stay is_environment_item_put items before relation old.environment_item_puts.items other are.environment_item_puts
 
-  environment_tags_stay : (relation : Relation) → ((name : Text) → is_environment_tag_put name relation ≡ false) → AreMarks is_environment_tag_put tags (before ++ relation ∷ []) old.environment_tag_puts.items
+  pub environment_tags_stay : (relation : Relation) → ((name : Text) → is_environment_tag_put name relation ≡ false) → AreMarks is_environment_tag_put tags (before ++ relation ∷ []) old.environment_tag_puts.items
   environment_tags_stay relation other = marks_stay is_environment_tag_put tags before relation old.environment_tag_puts.items other are.environment_tag_puts
 
-  environment_gets_stay : (relation : Relation) → ((name : Text) → is_environment_get name relation ≡ false) → AreMarks is_environment_get items (before ++ relation ∷ []) old.environment_gets.items
+  pub environment_gets_stay : (relation : Relation) → ((name : Text) → is_environment_get name relation ≡ false) → AreMarks is_environment_get items (before ++ relation ∷ []) old.environment_gets.items
   environment_gets_stay relation other = marks_stay is_environment_get items before relation old.environment_gets.items other are.environment_gets
 
   -- what a relation leaves as it was
-  ruleset kept = (prescribers_stay, reads_stay, item_puts_stay, tag_puts_stay, environment_items_stay, environment_tags_stay, environment_gets_stay)
-
-  -- ---- a relation between a step and another name
-
-  module _ (is : Text → Text → Relation → Bool) (names : List Text) (relation : Relation) (rows new : List (List Bool)) (step other : Name) (sp op : Option ℕ) (so_far : AreRows is steps names before rows)
-      (step_is : sp ≡ place_of steps (text_of step)) (other_is : op ≡ place_of names (text_of other)) where
-    -- its faults by the numbers of its names are those by the names, whichever of the two is looked up first
-    faults_told : ((one : Relation) → same_relation relation one ≡ is (text_of step) (text_of other) one) → (p : ℕ) (ones twos : List Text) (a b : Name) (x y : Option ℕ) (e f : GraphError)
-        → x ≡ place_of ones (text_of a) → y ≡ place_of twos (text_of b)
-        → fault_if (mark_between rows sp op) Redeclared p ++ fault_if (is_none x) e a.place ++ fault_if (is_none y) f b.place
-        ≡ again before relation p ++ fault_if (not (has ones a)) e a.place ++ fault_if (not (has twos b)) f b.place
-    faults_told same p ones twos a b x y e f one two =
-        let marked = marked_before is steps names before relation rows (text_of step) (text_of other) sp op so_far same step_is other_is in
-        λ i. fault_if (sym marked i) Redeclared p ++ in_vain x ones a e one i ++ in_vain y twos b f two i
-
-    -- the names are marked if both are there
-    row_marked : ((one two : Text) → is one two relation ≡ is_text (text_of step) one && is_text (text_of other) two) → fault_if (not (has steps step)) StepMissing step.place ≡ []
-        → fault_if (not (has names other)) UnknownName other.place ≡ [] → new ≡ with_mark_between rows sp op → AreRows is steps names (before ++ relation ∷ []) new
-    row_marked kind none nothing marked =
-        let row = is_there (place_of steps (text_of step)) StepMissing step.place none in
-        let place = is_there (place_of names (text_of other)) UnknownName other.place nothing in
-        subst (AreRows is steps names (before ++ relation ∷ [])) (sym (marked ∙ (λ i. with_mark_between rows ((step_is ∙ row.1) i) ((other_is ∙ place.1) i))))
-        (two_marked is steps names before relation rows (text_of step) (text_of other) row.0 place.0 row.1 place.1 kind so_far)
-
-  pub read_relates : (p : ℕ) (a b : Name) (sp op : Option ℕ) (rows : Vec (Vec Bool Global) Global) (result : Result (Unit {0}) PlacedFault)
-      → sp ≡ place_of steps (text_of b) → op ≡ place_of items (text_of a)
-      → Reports (read_faults (bits old.reads) p op a sp b) result
-      → OnOk result (bits rows ≡ with_mark_between (bits old.reads) sp op)
-      → Relates items tags steps before (related.Reads p a b) (record { prescribers = old.prescribers; reads = rows; item_puts = old.item_puts; tag_puts = old.tag_puts; environment_item_puts = old.environment_item_puts; environment_tag_puts = old.environment_tag_puts; environment_gets = old.environment_gets }) result
-  read_relates p a b sp op rows result step_is other_is reports marked =
-      relates items tags steps before (related.Reads p a b) _ _ result (faults_told (λ step item. is_read item step) items (related.Reads p a b) (bits old.reads) (bits rows) b a sp op are.reads step_is other_is (λ one. grind (arith, same_both_ways)) p items steps a b op sp UnknownName StepMissing other_is step_is) reports
-      marked (λ marks none. let own = row_marked (λ step item. is_read item step) items (related.Reads p a b) (bits old.reads) (bits rows) b a sp op are.reads step_is other_is (λ one two. and_comm (is_text (text_of a) two) (is_text (text_of b) one)) (search (first_empty, second_empty, none)) (search (first_empty, second_empty, none)) marks in search (own, kept))
-
-  pub item_put_relates : (p : ℕ) (a b : Name) (sp op : Option ℕ) (rows : Vec (Vec Bool Global) Global) (result : Result (Unit {0}) PlacedFault)
-      → sp ≡ place_of steps (text_of a) → op ≡ place_of items (text_of b)
-      → Reports (put_faults (bits old.item_puts) p sp a op b) result
-      → OnOk result (bits rows ≡ with_mark_between (bits old.item_puts) sp op)
-      → Relates items tags steps before (related.PutsItem p a b) (record { prescribers = old.prescribers; reads = old.reads; item_puts = rows; tag_puts = old.tag_puts; environment_item_puts = old.environment_item_puts; environment_tag_puts = old.environment_tag_puts; environment_gets = old.environment_gets }) result
-  item_put_relates p a b sp op rows result step_is other_is reports marked =
-      relates items tags steps before (related.PutsItem p a b) _ _ result (faults_told is_item_put items (related.PutsItem p a b) (bits old.item_puts) (bits rows) a b sp op are.item_puts step_is other_is (λ one. grind (arith, same_both_ways)) p steps items a b sp op StepMissing UnknownName step_is other_is) reports
-      marked (λ marks none. let own = row_marked is_item_put items (related.PutsItem p a b) (bits old.item_puts) (bits rows) a b sp op are.item_puts step_is other_is (λ one two. refl) (search (first_empty, second_empty, none)) (search (first_empty, second_empty, none)) marks in search (own, kept))
-
-  pub tag_put_relates : (p : ℕ) (a b : Name) (sp op : Option ℕ) (rows : Vec (Vec Bool Global) Global) (result : Result (Unit {0}) PlacedFault)
-      → sp ≡ place_of steps (text_of a) → op ≡ place_of tags (text_of b)
-      → Reports (put_faults (bits old.tag_puts) p sp a op b) result
-      → OnOk result (bits rows ≡ with_mark_between (bits old.tag_puts) sp op)
-      → Relates items tags steps before (related.PutsTag p a b) (record { prescribers = old.prescribers; reads = old.reads; item_puts = old.item_puts; tag_puts = rows; environment_item_puts = old.environment_item_puts; environment_tag_puts = old.environment_tag_puts; environment_gets = old.environment_gets }) result
-  tag_put_relates p a b sp op rows result step_is other_is reports marked =
-      relates items tags steps before (related.PutsTag p a b) _ _ result (faults_told is_tag_put tags (related.PutsTag p a b) (bits old.tag_puts) (bits rows) a b sp op are.tag_puts step_is other_is (λ one. grind (arith, same_both_ways)) p steps tags a b sp op StepMissing UnknownName step_is other_is) reports
-      marked (λ marks none. let own = row_marked is_tag_put tags (related.PutsTag p a b) (bits old.tag_puts) (bits rows) a b sp op are.tag_puts step_is other_is (λ one two. refl) (search (first_empty, second_empty, none)) (search (first_empty, second_empty, none)) marks in search (own, kept))
-
-  -- ---- a relation of the environment
-
-  module _ (is : Text → Relation → Bool) (names : List Text) (relation : Relation) (row new : List Bool) (name : Name) (op : Option ℕ) (so_far : AreMarks is names before row) (name_is : op ≡ place_of names (text_of name)) where
-    fault_told : ((one : Relation) → same_relation relation one ≡ is (text_of name) one) → (p : ℕ)
-        → fault_if (mark_at row op) Redeclared p ++ fault_if (is_none op) UnknownName name.place ≡ again before relation p ++ fault_if (not (has names name)) UnknownName name.place
-    fault_told same p =
-        let marked : list_any (same_relation relation) before ≡ mark_at row op = any_agree (same_relation relation) (is (text_of name)) before same ∙ so_far.each (text_of name) ∙ ap (mark_at row) (sym name_is) in
-        λ i. fault_if (sym marked i) Redeclared p ++ in_vain op names name UnknownName name_is i
-
-    name_marked : ((other : Text) → is other relation ≡ is_text (text_of name) other) → fault_if (not (has names name)) UnknownName name.place ≡ [] → new ≡ with_mark row op → AreMarks is names (before ++ relation ∷ []) new
-    name_marked kind none marked =
-        let place = is_there (place_of names (text_of name)) UnknownName name.place none in
-        subst (AreMarks is names (before ++ relation ∷ [])) (sym (marked ∙ ap (with_mark row) (name_is ∙ place.1))) (one_marked is names before relation row (text_of name) place.0 place.1 kind so_far)
-
-  pub environment_item_put_relates : (p : ℕ) (a : Name) (op : Option ℕ) (row : Vec Bool Global) (result : Result (Unit {0}) PlacedFault)
-      → op ≡ place_of items (text_of a)
-      → Reports (environment_faults old.environment_item_puts.items p op a) result
-      → OnOk result (row.items ≡ with_mark old.environment_item_puts.items op)
-      → Relates items tags steps before (related.EnvironmentPutsItem p a) (record { prescribers = old.prescribers; reads = old.reads; item_puts = old.item_puts; tag_puts = old.tag_puts; environment_item_puts = row; environment_tag_puts = old.environment_tag_puts; environment_gets = old.environment_gets }) result
-  environment_item_put_relates p a op row result other_is reports marked =
-      relates items tags steps before (related.EnvironmentPutsItem p a) _ _ result (fault_told is_environment_item_put items (related.EnvironmentPutsItem p a) old.environment_item_puts.items row.items a op are.environment_item_puts other_is (λ one. grind (arith, same_both_ways)) p) reports
-      marked (λ marks none. let own = name_marked is_environment_item_put items (related.EnvironmentPutsItem p a) old.environment_item_puts.items row.items a op are.environment_item_puts other_is (λ other. refl) (search (second_empty, none)) marks in search (own, kept))
-
-  pub environment_tag_put_relates : (p : ℕ) (a : Name) (op : Option ℕ) (row : Vec Bool Global) (result : Result (Unit {0}) PlacedFault)
-      → op ≡ place_of tags (text_of a)
-      → Reports (environment_faults old.environment_tag_puts.items p op a) result
-      → OnOk result (row.items ≡ with_mark old.environment_tag_puts.items op)
-      → Relates items tags steps before (related.EnvironmentPutsTag p a) (record { prescribers = old.prescribers; reads = old.reads; item_puts = old.item_puts; tag_puts = old.tag_puts; environment_item_puts = old.environment_item_puts; environment_tag_puts = row; environment_gets = old.environment_gets }) result
-  environment_tag_put_relates p a op row result other_is reports marked =
-      relates items tags steps before (related.EnvironmentPutsTag p a) _ _ result (fault_told is_environment_tag_put tags (related.EnvironmentPutsTag p a) old.environment_tag_puts.items row.items a op are.environment_tag_puts other_is (λ one. grind (arith, same_both_ways)) p) reports
-      marked (λ marks none. let own = name_marked is_environment_tag_put tags (related.EnvironmentPutsTag p a) old.environment_tag_puts.items row.items a op are.environment_tag_puts other_is (λ other. refl) (search (second_empty, none)) marks in search (own, kept))
-
-  pub environment_get_relates : (p : ℕ) (a : Name) (op : Option ℕ) (row : Vec Bool Global) (result : Result (Unit {0}) PlacedFault)
-      → op ≡ place_of items (text_of a)
-      → Reports (environment_faults old.environment_gets.items p op a) result
-      → OnOk result (row.items ≡ with_mark old.environment_gets.items op)
-      → Relates items tags steps before (related.EnvironmentGets p a) (record { prescribers = old.prescribers; reads = old.reads; item_puts = old.item_puts; tag_puts = old.tag_puts; environment_item_puts = old.environment_item_puts; environment_tag_puts = old.environment_tag_puts; environment_gets = row }) result
-  environment_get_relates p a op row result other_is reports marked =
-      relates items tags steps before (related.EnvironmentGets p a) _ _ result (fault_told is_environment_get items (related.EnvironmentGets p a) old.environment_gets.items row.items a op are.environment_gets other_is (λ one. grind (arith, same_both_ways)) p) reports
-      marked (λ marks none. let own = name_marked is_environment_get items (related.EnvironmentGets p a) old.environment_gets.items row.items a op are.environment_gets other_is (λ other. refl) (search (second_empty, none)) marks in search (own, kept))
+  pub ruleset kept = (prescribers_stay, reads_stay, item_puts_stay, tag_puts_stay, environment_items_stay, environment_tags_stay, environment_gets_stay)
 
   -- ---- a prescription
 
@@ -192,6 +91,63 @@ module _ (items tags steps : List Text) (before : List Relation) (old : Relation
           let free = ap (λ (p : Option ℕ). is_some (prescriber_at old.prescribers.items p)) (sym (step_is ∙ step.1)) ∙ once ∙ not_so _ TwoPrescribers b.place alone.1 in
           subst (ArePrescribers tags steps (before ++ related.Prescribes a b ∷ [])) (sym (marks ∙ (λ i. with_prescriber old.prescribers.items ((step_is ∙ step.1) i) ((tag_is ∙ tag.1) i))))
           (one_prescribed tags steps before old.prescribers.items a b tag.0 step.0 tag.1 step.1 free are.prescribers)
+
+module _ (items tags steps : List Text) (before : List Relation) where
+  -- ---- a relation between a step and another name
+
+  module _ (is : Text → Text → Relation → Bool) (names : List Text) (relation : Relation) (rows new : List (List Bool)) (step other : Name) (sp op : Option ℕ)
+      (so_far : AreRows is steps names before rows) (step_is : sp ≡ place_of steps (text_of step)) (other_is : op ≡ place_of names (text_of other))
+      (same : (one : Relation) → same_relation relation one ≡ is (text_of step) (text_of other) one) (kind : (one two : Text) → is one two relation ≡ is_text (text_of step) one && is_text (text_of other) two) where
+    -- it is there before exactly if the numbers of its names are marked
+    told_before : list_any (same_relation relation) before ≡ mark_between rows sp op
+    told_before =
+        any_agree (same_relation relation) (is (text_of step) (text_of other)) before same ∙ so_far.each (text_of step) (text_of other)
+        ∙ (λ i. mark_between rows (sym step_is i) (sym other_is i))
+
+    -- the names are marked if both are there
+    row_marked : missing steps step ≡ [] → unknown names other ≡ [] → new ≡ with_mark_between rows sp op → AreRows is steps names (before ++ relation ∷ []) new
+    row_marked none nothing marked =
+        let row = is_there (place_of steps (text_of step)) StepMissing step.place none in
+        let place = is_there (place_of names (text_of other)) UnknownName other.place nothing in
+        subst (AreRows is steps names (before ++ relation ∷ [])) (sym (marked ∙ (λ i. with_mark_between rows ((step_is ∙ row.1) i) ((other_is ∙ place.1) i))))
+        (two_marked is steps names before relation rows (text_of step) (text_of other) row.0 place.0 row.1 place.1 kind so_far)
+
+    -- a put looks its step up first
+    pub put_relates : (p : ℕ) (them : Relations) (result : Result (Unit {0}) PlacedFault) → relation_fault items tags steps before relation ≡ again before relation p ++ missing steps step ++ unknown names other
+        → Reports (put_faults rows p sp step op other) result → OnOk result (new ≡ with_mark_between rows sp op)
+        → (AreRows is steps names (before ++ relation ∷ []) new → AreRelations items tags steps (before ++ relation ∷ []) them) → Relates items tags steps before relation them result
+    put_relates p them result all reports marked rest =
+        relates items tags steps before relation them _ result
+        ((λ i. fault_if (sym told_before i) Redeclared p ++ in_vain sp steps step StepMissing step_is i ++ in_vain op names other UnknownName other_is i) ∙ sym all) reports marked
+        (λ marks none. let nothing = sym all ∙ none in rest (row_marked (search (first_empty, second_empty, nothing)) (search (first_empty, second_empty, nothing)) marks))
+
+    -- and a read looks it up last
+    pub read_relates : (p : ℕ) (them : Relations) (result : Result (Unit {0}) PlacedFault) → relation_fault items tags steps before relation ≡ again before relation p ++ unknown names other ++ missing steps step
+        → Reports (read_faults rows p op other sp step) result → OnOk result (new ≡ with_mark_between rows sp op)
+        → (AreRows is steps names (before ++ relation ∷ []) new → AreRelations items tags steps (before ++ relation ∷ []) them) → Relates items tags steps before relation them result
+    read_relates p them result all reports marked rest =
+        relates items tags steps before relation them _ result
+        ((λ i. fault_if (sym told_before i) Redeclared p ++ in_vain op names other UnknownName other_is i ++ in_vain sp steps step StepMissing step_is i) ∙ sym all) reports marked
+        (λ marks none. let nothing = sym all ∙ none in rest (row_marked (search (first_empty, second_empty, nothing)) (search (first_empty, second_empty, nothing)) marks))
+
+  -- ---- a relation of the environment
+
+  pub environment_relates : (is : Text → Relation → Bool) (names : List Text) (relation : Relation) (p : ℕ) (name : Name) (op : Option ℕ) (row new : List Bool) (them : Relations) (result : Result (Unit {0}) PlacedFault)
+      → AreMarks is names before row → op ≡ place_of names (text_of name) → relation_fault items tags steps before relation ≡ again before relation p ++ unknown names name
+      → ((one : Relation) → same_relation relation one ≡ is (text_of name) one) → ((other : Text) → is other relation ≡ is_text (text_of name) other)
+      → Reports (environment_faults row p op name) result → OnOk result (new ≡ with_mark row op)
+      → (AreMarks is names (before ++ relation ∷ []) new → AreRelations items tags steps (before ++ relation ∷ []) them) → Relates items tags steps before relation them result
+  environment_relates is names relation p name op row new them result so_far name_is all same kind reports marked rest =
+      relates items tags steps before relation them _ result
+      ((λ i. fault_if (sym told_before i) Redeclared p ++ in_vain op names name UnknownName name_is i) ∙ sym all) reports marked (λ marks none. rest (name_marked (second_empty _ _ (sym all ∙ none)) marks))
+    where
+      told_before : list_any (same_relation relation) before ≡ mark_at row op
+      told_before = any_agree (same_relation relation) (is (text_of name)) before same ∙ so_far.each (text_of name) ∙ ap (mark_at row) (sym name_is)
+
+      name_marked : unknown names name ≡ [] → new ≡ with_mark row op → AreMarks is names (before ++ relation ∷ []) new
+      name_marked none marked =
+          let place = is_there (place_of names (text_of name)) UnknownName name.place none in
+          subst (AreMarks is names (before ++ relation ∷ [])) (sym (marked ∙ ap (with_mark row) (name_is ∙ place.1))) (one_marked is names before relation row (text_of name) place.0 place.1 kind so_far)
 
 same_there : {X : Type 0} (n place : ℕ) (x : X) → get_or (replicate n x) place x ≡ x
 same_there zero place x = refl
