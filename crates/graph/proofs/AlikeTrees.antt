@@ -1,5 +1,5 @@
 -- Trees of one derivation differ only in where their parts are in memory: all of them that are graphs are one graph.
-use Rattle.std.proofs.Common.{◌≡◌, List, [], ◌∷◌, sym, ◌∙◌, ℕ, Some, refl, ap, ◌++◌, map, subst, arith}
+use Rattle.std.proofs.Common.{◌≡◌, List, [], ◌∷◌, sym, ◌∙◌, ℕ, Some, refl, ap, ◌++◌, map, arith}
 use Rattle.std.specs.Prelude.{⊤}
 use Rattle.steptree.specs.declared.step.Name.{Name}
 use Rattle.steptree.specs.Tree as tree
@@ -61,12 +61,8 @@ sums_alike [] [] [] a b = tt
 sums_alike (sum ∷ them) (one ∷ ones) (two ∷ twos) a b = (sum_alike sum one two a.0 b.0, sums_alike them ones twos a.1 b.1)
 sums_alike _ _ _ a b = absurd (assumption)
 
-none_alike : (ones twos : List NamedExpression) → ones ≡ [] → twos ≡ [] → AreAll Alike ones twos
-none_alike [] [] a b = tt
-none_alike _ _ a b = absurd (cc)
-
 components_alike : (them : Sums) (ones twos : List NamedExpression) → AreSums them ones → AreSums them twos → AreAll Alike ones twos
-components_alike no_sums ones twos a b = none_alike ones twos a b
+components_alike no_sums ones twos a b = rw (a, b) tt
 components_alike (sums first more) ones twos a b = sums_alike (first ∷ more) ones twos a b
 
 abbrev pub AlikeKey : Name → List NamedExpression → Name → List NamedExpression → Type 0
@@ -87,10 +83,6 @@ AlikeBlock (PutItem collection key e rest) (PutItem another other f more) = Alik
 AlikeBlock (PutTag collection key rest) (PutTag another other more) = AlikeKey collection key.items another other.items × AlikeBlock rest more
 AlikeBlock block other = ⊥
 
-ends_alike : (one two : NamedBlock) → one ≡ End → two ≡ End → AlikeBlock one two
-ends_alike End End a b = tt
-ends_alike _ _ a b = absurd (cc)
-
 -- what is known of the rests of two blocks carries over to the blocks
 module _ {B : Type 0} (IsOwn : B → NamedBlock → (NamedBlock → Type 0) → Type 0)
     (own_alike : (it : B) (one two : NamedBlock) (First Second : NamedBlock → Type 0) → ((rest more : NamedBlock) → First rest → Second more → AlikeBlock rest more) → IsOwn it one First → IsOwn it two Second → AlikeBlock one two) where
@@ -100,7 +92,7 @@ module _ {B : Type 0} (IsOwn : B → NamedBlock → (NamedBlock → Type 0) → 
     statement_alike (own it) them one two rests a b = own_alike it one two (AreStatements IsOwn them) (AreStatements IsOwn them) rests a b
     statement_alike (assigned it expr) them (Assign n e rest) (Assign m f more) rests a b = (same_name it n m a.0 b.0, expr_alike expr e f a.1 b.1, rests rest more a.2 b.2)
     statement_alike (if_alone condition _ first) them (If e one two rest) (If f third fourth more) rests a b =
-        (expr_alike condition e f a.0 b.0, statements_alike first one third a.1 b.1, ends_alike two fourth a.2 b.2, rests rest more a.3 b.3)
+        (expr_alike condition e f a.0 b.0, statements_alike first one third a.1 b.1, rw (a.2, b.2) tt, rests rest more a.3 b.3)
     statement_alike (if_else condition _ first _ second) them (If e one two rest) (If f third fourth more) rests a b =
         (expr_alike condition e f a.0 b.0, statements_alike first one third a.1 b.1, statements_alike second two fourth a.2 b.2, rests rest more a.3 b.3)
     statement_alike (for it from to _ inner) them (For n e1 e2 one rest) (For m f1 f2 two more) rests a b =
@@ -108,7 +100,7 @@ module _ {B : Type 0} (IsOwn : B → NamedBlock → (NamedBlock → Type 0) → 
     statement_alike _ _ _ _ _ a b = absurd (assumption)
 
     pub statements_alike : (them : Statements B) (one two : NamedBlock) → AreStatements IsOwn them one → AreStatements IsOwn them two → AlikeBlock one two
-    statements_alike no_more one two a b = ends_alike one two a b
+    statements_alike no_more one two a b = rw (a, b) tt
     statements_alike (and_then first more) one two a b =
         statement_alike first more one two (λ rest other c d. statements_alike more rest other c d) a b
 
@@ -188,24 +180,16 @@ module _ (t u : Tree) (g h : Graph) (same : SharesNames t u) (tags_are_same : g.
       let numbers : Some first.prescriber ≡ Some second.prescriber = sym c.prescriber.2 ∙ (λ i. place_of (names_in (tags_are_same i)) (tag i)) ∙ d.prescriber.2 in
       let sheets = sheet_same t u same one two named in
       let prescriber : first.prescriber ≡ second.prescriber = cc in
-      let all_named : first.names ≡ second.names = c.names ∙ names ∙ sym d.names in
-      let parameters : first.parameters ≡ second.parameters =
-      c.parameters ∙ as_many IsName (all_names text.parameters) one.parameters.items a.parameters ∙ sym (as_many IsName (all_names text.parameters) two.parameters.items b.parameters) ∙ sym d.parameters in
-      let reads : first.reads ≡ second.reads = c.reads ∙ ap (λ (sheet : Nameable). sheet.reads) sheets ∙ sym d.reads in
-      let item_puts : first.item_puts ≡ second.item_puts = c.item_puts ∙ ap (λ (sheet : Nameable). sheet.item_puts) sheets ∙ sym d.item_puts in
-      let tag_puts : first.tag_puts ≡ second.tag_puts = c.tag_puts ∙ ap (λ (sheet : Nameable). sheet.tag_puts) sheets ∙ sym d.tag_puts in
-      let read = block_same (names_of one) (sheet_in t one) one.read two.read first.body.read second.body.read (statements_alike IsGet get_alike text.read one.read two.read a.read b.read) c.read
-      (subst (λ (sheet : Nameable). IsBlock (names_of one) sheet two.read second.body.read) (sym sheets) (subst (λ (them : List Text). IsBlock them (sheet_in u two) two.read second.body.read) (sym names) d.read)) in
-      let write = block_same (names_of one) (sheet_in t one) one.write two.write first.body.write second.body.write (statements_alike IsPut put_alike text.write one.write two.write a.write b.write) c.write
-      (subst (λ (sheet : Nameable). IsBlock (names_of one) sheet two.write second.body.write) (sym sheets) (subst (λ (them : List Text). IsBlock them (sheet_in u two) two.write second.body.write) (sym names) d.write)) in
+      let read = block_same (names_of one) (sheet_in t one) one.read two.read _ _ (statements_alike IsGet get_alike text.read one.read two.read a.read b.read) c.read (rw (← names, ← sheets) at d.read) in
+      let write = block_same (names_of one) (sheet_in t one) one.write two.write _ _ (statements_alike IsPut put_alike text.write one.write two.write a.write b.write) c.write (rw (← names, ← sheets) at d.write) in
       λ i. record {
         name = step_named i;
         prescriber = prescriber i;
-        names = all_named i;
-        parameters = parameters i;
-        reads = reads i;
-        item_puts = item_puts i;
-        tag_puts = tag_puts i;
+        names = (c.names ∙ names ∙ sym d.names) i;
+        parameters = (c.parameters ∙ as_many IsName _ one.parameters.items a.parameters ∙ sym (as_many IsName _ two.parameters.items b.parameters) ∙ sym d.parameters) i;
+        reads = (c.reads ∙ ap (λ (sheet : Nameable). sheet.reads) sheets ∙ sym d.reads) i;
+        item_puts = (c.item_puts ∙ ap (λ (sheet : Nameable). sheet.item_puts) sheets ∙ sym d.item_puts) i;
+        tag_puts = (c.tag_puts ∙ ap (λ (sheet : Nameable). sheet.tag_puts) sheets ∙ sym d.tag_puts) i;
         body = record { read = read i; write = write i };
       }
 
@@ -222,14 +206,14 @@ graph_same graph t u g h a b c d =
     let items_same : g.items ≡ h.items = c.items ∙ same.items ∙ sym d.items in
     let tags_same : g.tags ≡ h.tags = c.tags ∙ same.tags ∙ sym d.tags in
     let steps = steps_same t u g h same tags_same graph.steps t.steps.items u.steps.items g.steps h.steps a.steps b.steps c.steps d.steps in
-    let item_puts = c.environment_item_puts ∙ each_same t u same is_environment_item_put (λ name it. grind arith) (names_in g.items) (names_in h.items) (ap names_in items_same) ∙ sym d.environment_item_puts in
-    let tag_puts = c.environment_tag_puts ∙ each_same t u same is_environment_tag_put (λ name it. grind arith) (names_in g.tags) (names_in h.tags) (ap names_in tags_same) ∙ sym d.environment_tag_puts in
-    let gets = c.environment_gets ∙ each_same t u same is_environment_get (λ name it. grind arith) (names_in g.items) (names_in h.items) (ap names_in items_same) ∙ sym d.environment_gets in
+    let item_puts = each_same t u same is_environment_item_put (λ name it. grind arith) _ _ (ap names_in items_same) in
+    let tag_puts = each_same t u same is_environment_tag_put (λ name it. grind arith) _ _ (ap names_in tags_same) in
+    let gets = each_same t u same is_environment_get (λ name it. grind arith) _ _ (ap names_in items_same) in
     λ i. record {
       items = items_same i;
       tags = tags_same i;
       steps = steps i;
-      environment_item_puts = item_puts i;
-      environment_tag_puts = tag_puts i;
-      environment_gets = gets i;
+      environment_item_puts = (c.environment_item_puts ∙ item_puts ∙ sym d.environment_item_puts) i;
+      environment_tag_puts = (c.environment_tag_puts ∙ tag_puts ∙ sym d.environment_tag_puts) i;
+      environment_gets = (c.environment_gets ∙ gets ∙ sym d.environment_gets) i;
     }
