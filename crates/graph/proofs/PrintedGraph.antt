@@ -14,7 +14,7 @@ use Rattle.graph.specs.Faults.{relation_faults, declaration_faults, step_faults}
 use Rattle.graph.specs.Textual.{IsGraphName, IsTextStep, IsTextual, CanonicalReads}
 use Rattle.graph.specs.Prescribed.{names_of_steps}
 use Rattle.graph.specs.Canonical.{those, in_brackets, in_angles, step_text, step_relations, environment_relations, canonical}
-use Rattle.graph.proofs.PrintedTokens.{found_at, never, anything, Printed, and, whole}
+use Rattle.graph.proofs.PrintedTokens.{found_at, never, anything, Printed, and, whole, in_order}
 use Rattle.graph.proofs.PrintedBlocks.{many_names}
 use Rattle.graph.proofs.PrintedDeclarations.{Declarable, declaration_line, item_lines_printed, tag_lines_printed, Declares, tree_declaration, are_declarations, items_back, no_items, no_tags, tags_back, declarations_within, without_fault}
 use Rattle.graph.proofs.PrintedApart.{each_marked, fewer_marked, Apart, apart, Clear}
@@ -31,7 +31,7 @@ use Rattle.steptree.specs.Sheet.{BodyKeepsTo}
 use Rattle.syntax.specs.declared.tree.Tree.{Tree}
 use Rattle.syntax.specs.Spelled.{Piece, declaration_pieces, relation_pieces, step_pieces, graph_pieces}
 use Rattle.syntax.specs.Limits.{relation_limits}
-use Rattle.graph.specs.Tree.{items_of, tags_of, step_names, is_read, is_item_put, is_tag_put, each_of, sheet_in, IsStepOf, is_environment_item_put, is_environment_tag_put, is_environment_get}
+use Rattle.graph.specs.Tree.{items_of, tags_of, step_names, is_read, is_item_put, is_tag_put, sheet_in, IsStepOf, is_environment_item_put, is_environment_tag_put, is_environment_get}
 use Rattle.graph.proofs.PrintedExpressions.{AllPrinted, all_printed, no_all}
 use Rattle.graph.proofs.PrintedValues.{vec_of}
 
@@ -144,9 +144,9 @@ module _ (g : Graph) (is : IsTextual g) where
 module _ (tree : Tree) (g : Graph) (items : items_of tree.declarations.items ≡ g.items) (tags : tags_of tree.declarations.items ≡ g.tags) where
   step_of : (value : NamedStep) (step : Step) → Shown g value step → Facts g tree.relations.items step → IsStepOf tree g value step
   step_of value step shown told =
-      let reads : step.reads ≡ (sheet_in tree value).reads = sym ((λ i. each_of (λ item. is_read item (shown.name i)) tree.relations.items (names_in (items i))) ∙ told.reads) in
-      let item_puts : step.item_puts ≡ (sheet_in tree value).item_puts = sym ((λ i. each_of (is_item_put (shown.name i)) tree.relations.items (names_in (items i))) ∙ told.item_puts) in
-      let tag_puts : step.tag_puts ≡ (sheet_in tree value).tag_puts = sym ((λ i. each_of (is_tag_put (shown.name i)) tree.relations.items (names_in (tags i))) ∙ told.tag_puts) in
+      let reads : step.reads ≡ (sheet_in tree value).reads = rw (shown.name, items) (sym told.reads) in
+      let item_puts : step.item_puts ≡ (sheet_in tree value).item_puts = rw (shown.name, items) (sym told.item_puts) in
+      let tag_puts : step.tag_puts ≡ (sheet_in tree value).tag_puts = rw (shown.name, tags) (sym told.tag_puts) in
       let same : sheet_of g step ≡ sheet_in tree value = λ i. record { items = sym items i; tags = sym tags i; reads = reads i; item_puts = item_puts i; tag_puts = tag_puts i } in record {
         name = sym shown.name;
         prescriber = (get_or (names_in g.tags) step.prescriber [], told.prescriber, told.place);
@@ -167,9 +167,6 @@ module _ (tree : Tree) (g : Graph) (items : items_of tree.declarations.items ≡
 
 -- ---- the text
 
-both_lines : (front steps environment behind : Text) → front ++ (steps ++ environment) ++ behind ≡ front ++ steps ++ environment ++ behind
-both_lines front steps environment behind = ap (λ (l : Text). l ++ behind) (sym (append_assoc front steps environment))
-
 -- the parts of the canonical text, in their order
 record Parts (g : Graph) : Type 0 where
   items : AllPrinted never (declaration_line in_brackets) declaration_pieces (Declares item_declared) 0 g.items
@@ -186,21 +183,18 @@ parts g is = record {
   steps = all_printed never (step_text g) step_pieces (DerivedStep g) (IsGood g) (λ step rest good. anything (step_text g step ++ rest)) (step_printed g is.graph.items is.graph.tags is.items is.tags) g.steps _ (good_steps g is);
 }
 
-text_of_parts : {g : Graph} → Parts g → GraphText
+abbrev text_of_parts : {g : Graph} → Parts g → GraphText
 text_of_parts it = record { declarations = it.items.derived ++ it.tags.derived; relations = it.relations.derived; steps = it.steps.derived }
 
 all_parts : (g : Graph) (it : Parts g) → Printed never 0 (canonical g) (graph_pieces (text_of_parts it))
-unfolding text_of_parts
 all_parts g it =
     let declared : Text = flat_map (declaration_line in_brackets) g.items ++ flat_map (declaration_line in_angles) g.tags in
     let texts : Text = flat_map (step_text g) g.steps in
     let all = and (and (and it.items.printed it.tags.printed) it.relations.printed) it.steps.printed in
     let same : declared ++ flat_map shape_line (shapes g) ++ texts ≡ canonical g =
-    ap (λ (l : Text). declared ++ l ++ texts) (relation_lines g) ∙ both_lines declared (flat_map (step_relations g) g.steps) (environment_relations g) texts in
-    let pieces : flat_map declaration_pieces (it.items.derived ++ it.tags.derived) ≡ flat_map declaration_pieces it.items.derived ++ flat_map declaration_pieces it.tags.derived =
-    flat_map-append declaration_pieces it.items.derived it.tags.derived in
+    ap (λ (l : Text). declared ++ l ++ texts) (relation_lines g) ∙ ap (λ (l : Text). l ++ texts) (sym (append_assoc declared (flat_map (step_relations g) g.steps) (environment_relations g))) in
     subst (λ (t : Text). Printed never 0 t (graph_pieces (text_of_parts it))) same
-    (subst (λ (p : List Piece). Printed never 0 (declared ++ flat_map shape_line (shapes g) ++ texts) (p ++ flat_map relation_pieces it.relations.derived ++ flat_map step_pieces it.steps.derived)) (sym pieces) all)
+    (in_order (ap (λ (p : List Piece). p ++ flat_map relation_pieces it.relations.derived ++ flat_map step_pieces it.steps.derived) (sym (flat_map-append declaration_pieces it.items.derived it.tags.derived))) all)
 
 nothing_before : (names : List Text) → Clear is_text [] names
 nothing_before names = each (λ text. AllByRecursion (λ other. is_text text other ≡ false) []) (λ text. tt) names
@@ -208,7 +202,6 @@ nothing_before names = each (λ text. AllByRecursion (λ other. is_text text oth
 -- ---- the law
 
 pub canonical_reads : CanonicalReads
-unfolding text_of_parts
 canonical_reads g is short =
     let it = parts g is in
     let printed = all_parts g it in
@@ -216,16 +209,20 @@ canonical_reads g is short =
     let two : List Declaration = it.tags.derived in
     let relations : List Relation = it.relations.derived in
     let trees = step_trees g g.steps it.steps.derived it.steps.related in
-    let many_items : length g.items ≡ length one = sym (as_many (Declares item_declared) g.items one it.items.related) in
-    let many_tags : length g.tags ≡ length two = sym (as_many (Declares tag_declared) g.tags two it.tags.related) in
-    let many_relations : length (shapes g) ≡ length relations = sym (as_many Shaped (shapes g) relations it.relations.related) in
-    let few_items : length g.items ≤ MOST_COLLECTIONS = is.graph.items.few in
     let few_tags : length g.tags ≤ MOST_COLLECTIONS = is.graph.tags.few in
-    let few_steps : length g.steps ≤ MOST_COLLECTIONS = is.graph.few in
     let tree : Tree = record {
-      declarations = vec_of (map tree_declaration (one ++ two)) (omega (arith, length-map (one ++ two) tree_declaration, length-append one two, many_items, many_tags, few_items, few_tags));
-      relations = vec_of (map tree_relation relations) (omega (arith, length-map relations tree_relation, many_relations, shapes_count g few_items few_tags few_steps));
-      steps = vec_of trees.values (omega (arith, trees.many, few_steps));
+      declarations = vec_of (map tree_declaration (one ++ two)) (omega (
+        arith,
+        length-map (one ++ two) tree_declaration,
+        length-append one two,
+        as_many (Declares item_declared) g.items one it.items.related,
+        as_many (Declares tag_declared) g.tags two it.tags.related,
+        is.graph.items.few,
+        few_tags,
+      ));
+      relations = vec_of (map tree_relation relations)
+          (omega (arith, length-map relations tree_relation, as_many Shaped (shapes g) relations it.relations.related, shapes_count g is.graph.items.few few_tags is.graph.few));
+      steps = vec_of trees.values (omega (arith, trees.many, is.graph.few));
     } in
     let items : items_of (map tree_declaration (one ++ two)) ≡ g.items =
     items_back g.items one two it.items.related ∙ ap (λ (l : List Collection). g.items ++ l) (no_items g.tags two it.tags.related) ∙ append-nil g.items in
@@ -247,8 +244,8 @@ canonical_reads g is short =
         tokens = whole (append-nil (canonical g)) printed (append-nil printed.spots);
         graph = text_of_parts it;
         derives = printed.are;
-        within = no_both _ _ (no_both _ _ (declarations_within 0 g.items g.tags one two (omega arith) few_tags it.items.related it.tags.related)
-            (no_all Shaped relation_limits (λ shape relation h. h.limits) (shapes g) relations it.relations.related)) (steps_within g 0 g.steps it.steps.derived it.steps.related (omega arith));
+        within = no_both _ _ (no_both _ _ (declarations_within 0 g.items g.tags one two (omega (arith, is.graph.items.few)) few_tags it.items.related it.tags.related)
+            (no_all Shaped relation_limits (λ shape relation h. h.limits) (shapes g) relations it.relations.related)) (steps_within g 0 g.steps it.steps.derived it.steps.related (omega (arith, is.graph.few)));
         is = record { declarations = are_declarations (one ++ two); relations = are_relations relations; steps = trees.are };
       };
       no_fault = no_both _ _ (no_both _ _ declared related) stepped;
