@@ -104,11 +104,13 @@ module _ {B : Type 0} (IsOwn : B → NamedBlock → (NamedBlock → Type 0) → 
     statements_alike (and_then first more) one two a b =
         statement_alike first more one two (λ rest other c d. statements_alike more rest other c d) a b
 
-pub get_alike : (get : Get) (one two : NamedBlock) (First Second : NamedBlock → Type 0) → ((rest more : NamedBlock) → First rest → Second more → AlikeBlock rest more) → IsGet get one First → IsGet get two Second → AlikeBlock one two
+pub get_alike : (get : Get) (one two : NamedBlock) (First Second : NamedBlock → Type 0) → ((rest more : NamedBlock) → First rest → Second more → AlikeBlock rest more) → IsGet get one First
+    → IsGet get two Second → AlikeBlock one two
 get_alike get (tree.Get n collection key rest) (tree.Get m another other more) First Second rests a b = (same_name get.variable n m a.0 b.0, key_alike get.item collection key.items another other.items a.1 b.1, rests rest more a.2 b.2)
 get_alike _ _ _ _ _ _ a b = absurd (assumption)
 
-pub put_alike : (put : Put) (one two : NamedBlock) (First Second : NamedBlock → Type 0) → ((rest more : NamedBlock) → First rest → Second more → AlikeBlock rest more) → IsPut put one First → IsPut put two Second → AlikeBlock one two
+pub put_alike : (put : Put) (one two : NamedBlock) (First Second : NamedBlock → Type 0) → ((rest more : NamedBlock) → First rest → Second more → AlikeBlock rest more) → IsPut put one First
+    → IsPut put two Second → AlikeBlock one two
 put_alike (put_item item expr) (PutItem collection key e rest) (PutItem another other f more) First Second rests a b = (key_alike item collection key.items another other.items a.0 b.0, expr_alike expr e f a.1 b.1, rests rest more a.2 b.2)
 put_alike (put_tag tag) (PutTag collection key rest) (PutTag another other more) First Second rests a b = (key_alike tag collection key.items another other.items a.0 b.0, rests rest more a.1 b.1)
 put_alike _ _ _ _ _ _ a b = absurd (assumption)
@@ -193,7 +195,8 @@ module _ (t u : Tree) (g h : Graph) (same : SharesNames t u) (tags_are_same : g.
         body = record { read = read i; write = write i };
       }
 
-  steps_same : (texts : List StepText) (ones twos : List NamedStep) (firsts seconds : List Step) → AreAll IsStep texts ones → AreAll IsStep texts twos → AreAll (IsStepOf t g) ones firsts → AreAll (IsStepOf u h) twos seconds
+  steps_same : (texts : List StepText) (ones twos : List NamedStep) (firsts seconds : List Step) → AreAll IsStep texts ones → AreAll IsStep texts twos → AreAll (IsStepOf t g) ones firsts
+      → AreAll (IsStepOf u h) twos seconds
       → firsts ≡ seconds
   steps_same [] [] [] [] [] a b c d = refl
   steps_same (text ∷ texts) (one ∷ ones) (two ∷ twos) (first ∷ firsts) (second ∷ seconds) a b c d =

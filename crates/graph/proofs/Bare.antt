@@ -83,7 +83,8 @@ same_bare one two = grind arith
 any_bare : (test other : Relating → Bool) → ((it : Relating) → test (bare_relation it) ≡ other it) → (them : List Relating) → list_any test (map bare_relation them) ≡ list_any other them
 any_bare test other same them = any_mapped test bare_relation them ∙ any_agree (λ it. test (bare_relation it)) other them same
 
-each_bare : (is : Text → Relating → Bool) → ((name : Text) (it : Relating) → is name (bare_relation it) ≡ is name it) → (them : List Relating) (names : List Text) → each_of is (map bare_relation them) names ≡ each_of is them names
+each_bare : (is : Text → Relating → Bool) → ((name : Text) (it : Relating) → is name (bare_relation it) ≡ is name it) → (them : List Relating) (names : List Text)
+    → each_of is (map bare_relation them) names ≡ each_of is them names
 each_bare is same them names = λ i. map (λ name. any_bare (is name) (is name) (same name) them i) names
 
 prescriber_bare : (them : List Relating) (step : Text) → prescriber_of (map bare_relation them) step ≡ prescriber_of them step
@@ -155,7 +156,8 @@ module _ (t u : Tree) (same : SharesNames t u) where
 
   -- ---- the faults of their steps
 
-  arity_same : (tags : List Collection) (prescriber : Option Text) (one two : NamedStep) → bare one.name ≡ bare two.name → length one.parameters.items ≡ length two.parameters.items → arity_faults tags prescriber one ≡ arity_faults tags prescriber two
+  arity_same : (tags : List Collection) (prescriber : Option Text) (one two : NamedStep) → bare one.name ≡ bare two.name → length one.parameters.items ≡ length two.parameters.items
+      → arity_faults tags prescriber one ≡ arity_faults tags prescriber two
   arity_same tags None one two name many = λ i. fault_if true error.NoPrescriber (name i).place
   arity_same tags (Some tag) one two name many = λ i. fault_if (is_other (components_of tags tag) (many i)) error.Arity (name i).place
 

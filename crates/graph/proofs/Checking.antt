@@ -112,7 +112,8 @@ module _ (steps : List NamedStep) (index : ℕ) (this : NamedStep) (within : ind
 -- ---- components
 
 -- the collection with a number is the one that its name finds
-pub found_collection : (tags : List Collection) (tag : Text) (number : ℕ) → place_of (names_in tags) tag ≡ Some number → (it : Collection) × (slice_get tags number ≡ Some it) × (components_of tags tag ≡ Some it.components)
+pub found_collection : (tags : List Collection) (tag : Text) (number : ℕ) → place_of (names_in tags) tag ≡ Some number
+    → (it : Collection) × (slice_get tags number ≡ Some it) × (components_of tags tag ≡ Some it.components)
 found_collection [] tag number there = absurd (cc)
 found_collection (first ∷ tags) tag zero there = (first, refl, grind arith)
 found_collection (first ∷ tags) tag (suc number) there = let rest = found_collection tags tag number (grind arith) in (rest.0, rest.1, grind (arith, rest.2))

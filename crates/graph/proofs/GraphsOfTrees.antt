@@ -100,7 +100,8 @@ module _ (tree : Tree) (g : Graph) (small : IsSmall tree) (none : tree_faults tr
 
 -- ---- checked steps by their number
 
-pub all_prescribed : (tree : Tree) (steps : List NamedStep) (them : List (Text × Prescribed)) (tags : ℕ) → tags ≡ length (tags_of tree.declarations.items) → AreCheckedSteps tree steps them → AllByRecursion (λ entry. entry.1.prescriber.0 < tags) them
+pub all_prescribed : (tree : Tree) (steps : List NamedStep) (them : List (Text × Prescribed)) (tags : ℕ) → tags ≡ length (tags_of tree.declarations.items) → AreCheckedSteps tree steps them
+    → AllByRecursion (λ entry. entry.1.prescriber.0 < tags) them
 all_prescribed tree [] [] tags many all = tt
 all_prescribed tree (step ∷ steps) (entry ∷ them) tags many all =
     let by = all.0.1.prescriber in

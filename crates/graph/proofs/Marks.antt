@@ -71,7 +71,8 @@ module _ (is : Text → Relation → Bool) (names : List Text) (before : List Re
       within : place < length row
       within = omega (arith, slice_get_within names place name (at_place names name place there), are.long)
 
-same_width : (rows : List (List Bool)) (row : ℕ) (new : List Bool) (width : ℕ) → length new ≡ width → AllByRecursion (λ row. length row ≡ width) rows → AllByRecursion (λ row. length row ≡ width) (set rows row new)
+same_width : (rows : List (List Bool)) (row : ℕ) (new : List Bool) (width : ℕ) → length new ≡ width → AllByRecursion (λ row. length row ≡ width) rows
+    → AllByRecursion (λ row. length row ≡ width) (set rows row new)
 same_width [] row new width long wide = tt
 same_width (first ∷ rows) zero new width long wide = (long, wide.1)
 same_width (first ∷ rows) (suc row) new width long wide = (wide.0, same_width rows row new width long wide.1)

@@ -105,7 +105,8 @@ tree_cause text tree kind place plain read fault =
     named_cause text kind place (first_named (tree_faults tree ++ map body_fault bodies) kind place (both _ _ (tree_named tree) (bodies_named bodies)) fault) plain
     (record { tree = tree; read = read; first = fault })
 
-pub tree_causes : (text : List ℕ) (tree : Tree) (fault : PlacedFault) → IsPlain text → IsRead text tree → (fault ≡ no_memory) ⊎ IsTreeFault tree fault.error fault.position → (fault ≡ no_memory) ⊎ IsCause text fault.error fault.position
+pub tree_causes : (text : List ℕ) (tree : Tree) (fault : PlacedFault) → IsPlain text → IsRead text tree → (fault ≡ no_memory) ⊎ IsTreeFault tree fault.error fault.position
+    → (fault ≡ no_memory) ⊎ IsCause text fault.error fault.position
 tree_causes text tree fault plain read (inl refused) = inl refused
 tree_causes text tree fault plain read (inr first) = inr (tree_cause text tree fault.error fault.position plain read first)
 

@@ -20,7 +20,8 @@ use Rattle.std.proofs.lemmas.Bool.{eqb-true, eq-eqb}
 use Rattle.std.proofs.lemmas.List.Elements.{Contains-append_left, Contains-append_right, Contains-append_cases, Contains-push, Contains-push_cases}
 
 -- the lists after a step is appended to the one at a place
-pub one_added : (lists : List (Vec StepCollection Global)) (place : ℕ) (old new : Vec StepCollection Global) (step : StepCollection) → place < length lists → old ≡ get_or lists place old → new.items ≡ old.items ++ step ∷ []
+pub one_added : (lists : List (Vec StepCollection Global)) (place : ℕ) (old new : Vec StepCollection Global) (step : StepCollection) → place < length lists → old ≡ get_or lists place old
+    → new.items ≡ old.items ++ step ∷ []
     → numbers_of (set lists place new) ≡ set (numbers_of lists) place (get_or (numbers_of lists) place [] ++ step.0 ∷ [])
 one_added lists place old new step within is more =
     map-set (λ steps. map (λ step. step.0) steps.items) lists place new
@@ -41,7 +42,8 @@ next_prescription steps step tags lists within are = record {
 }
 
 -- the prescriptions after a step of the list is added in its place
-pub step_prescribed : (steps : List (Text × Prescribed)) (number tags : ℕ) (entry : Text × Prescribed) (lists : List (List ℕ)) → number < length steps → slice_get steps number ≡ Some entry → AllByRecursion (λ entry. entry.1.prescriber.0 < tags) steps
+pub step_prescribed : (steps : List (Text × Prescribed)) (number tags : ℕ) (entry : Text × Prescribed) (lists : List (List ℕ)) → number < length steps → slice_get steps number ≡ Some entry
+    → AllByRecursion (λ entry. entry.1.prescriber.0 < tags) steps
     → ArePrescriptions (map step_seen (take number steps)) tags lists
     → ArePrescriptions (map step_seen (take (number + 1) steps)) tags (set lists entry.1.prescriber.0 (get_or lists entry.1.prescriber.0 [] ++ number ∷ []))
 step_prescribed steps number tags entry lists within there all are =
@@ -58,7 +60,8 @@ there_is [] number within = absurd (omega arith)
 there_is (x ∷ xs) zero within = (x, refl)
 there_is (x ∷ xs) (suc number) within = there_is xs number (omega arith)
 
-pub value_prescribed : (steps : List (Text × Prescribed)) (number tags : ℕ) (value : Prescribed) (lists : List (List ℕ)) → number < length steps → Some value ≡ option_map (λ entry. entry.1) (slice_get steps number)
+pub value_prescribed : (steps : List (Text × Prescribed)) (number tags : ℕ) (value : Prescribed) (lists : List (List ℕ)) → number < length steps
+    → Some value ≡ option_map (λ entry. entry.1) (slice_get steps number)
     → AllByRecursion (λ entry. entry.1.prescriber.0 < tags) steps → ArePrescriptions (map step_seen (take number steps)) tags lists
     → ArePrescriptions (map step_seen (take (number + 1) steps)) tags (set lists value.prescriber.0 (get_or lists value.prescriber.0 [] ++ number ∷ []))
 value_prescribed steps number tags value lists within is all are =
@@ -93,7 +96,8 @@ first_or_later false first list number it = inr it
 
 -- ---- steps numbered from a start
 
-step_is_listed : (start : ℕ) (steps : List Step) (tag place number : ℕ) (step : Step) → slice_get steps place ≡ Some step → step.prescriber ≡ tag → start + place ≡ number → Contains (prescribed_from start steps tag) number
+step_is_listed : (start : ℕ) (steps : List Step) (tag place number : ℕ) (step : Step) → slice_get steps place ≡ Some step → step.prescriber ≡ tag → start + place ≡ number
+    → Contains (prescribed_from start steps tag) number
 step_is_listed start [] tag place number step there prescribed at = absurd (cc)
 step_is_listed start (first ∷ steps) tag zero number step there prescribed at =
     let same : first ≡ step = cc in

@@ -36,7 +36,8 @@ pub record Known (collections : List Collection) (index components : ℕ) : Type
 pub many_names : (collections : List Collection) → length (names_in collections) ≡ length collections
 many_names collections = length-map collections (λ (it : Collection). it.name)
 
-pub known : (collections : List Collection) → AreFew collections → AreNames (names_in collections) → (allowed : List Bool) (index components : ℕ) → IsAllowed collections allowed index components → Known collections index components
+pub known : (collections : List Collection) → AreFew collections → AreNames (names_in collections) → (allowed : List Bool) (index components : ℕ)
+    → IsAllowed collections allowed index components → Known collections index components
 known collections are names allowed index components is =
     let collection : Collection = is.declared.0 in
     let within : index < length collections = slice_get_within collections index collection is.declared.1 in

@@ -224,7 +224,8 @@ tags_within items before (c ∷ cs) (d ∷ ds) few all =
     ∙ no_both _ _ (no_both _ _ (no_more_limit MOST_COLLECTIONS before all.0.position (omega arith)) all.0.limits) (tags_within items (suc before) cs ds (omega arith) all.1)
 tags_within _ _ _ _ _ all = absurd (assumption)
 
-pub declarations_within : (before : ℕ) (items tags : List Collection) (one two : List Declaration) → before + length items ≤ MOST_COLLECTIONS → length tags ≤ MOST_COLLECTIONS → AreItems items one → AreTags tags two
+pub declarations_within : (before : ℕ) (items tags : List Collection) (one two : List Declaration) → before + length items ≤ MOST_COLLECTIONS → length tags ≤ MOST_COLLECTIONS
+    → AreItems items one → AreTags tags two
     → declarations_limits before 0 (one ++ two) ≡ []
 declarations_within before [] tags [] two few few2 all all2 = tags_within before 0 tags two (omega arith) all2
 declarations_within before (c ∷ cs) tags (d ∷ ds) two few few2 all all2 =

@@ -39,7 +39,8 @@ each_two : {X : Type 0} (P Q : X → Type 0) (xs : List X) → AllByRecursion P 
 each_two P Q [] one two = tt
 each_two P Q (x ∷ xs) one two = ((one.0, two.0), each_two P Q xs one.1 two.1)
 
-pub declarable : (collections : List Collection) → All (λ collection. collection.components ≤ MAX_COMPONENTS) collections → AllByRecursion IsGraphName (names_in collections) → AllByRecursion Declarable collections
+pub declarable : (collections : List Collection) → All (λ collection. collection.components ≤ MAX_COMPONENTS) collections → AllByRecursion IsGraphName (names_in collections)
+    → AllByRecursion Declarable collections
 declarable [] few good = tt
 declarable (first ∷ rest) few good = (record { name = good.0; few = few 0 first (omega arith) }, declarable rest (λ k d h. few (suc k) d (omega arith)) good.1)
 

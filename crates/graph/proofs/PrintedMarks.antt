@@ -91,7 +91,8 @@ clash one two = same_relation (bare one) (bare two)
 not_again : (d b : Relation) → clash (shape_of d) (shape_of b) ≡ false → same_relation (tree_relation d) (tree_relation b) ≡ false
 not_again d b h = grind arith
 
-none_before : (d : Relation) (before : List Relation) → AllByRecursion (λ shape. clash (shape_of d) shape ≡ false) (map shape_of before) → list_any (same_relation (tree_relation d)) (map tree_relation before) ≡ false
+none_before : (d : Relation) (before : List Relation) → AllByRecursion (λ shape. clash (shape_of d) shape ≡ false) (map shape_of before)
+    → list_any (same_relation (tree_relation d)) (map tree_relation before) ≡ false
 none_before d [] all = refl
 none_before d (b ∷ before) all = ap (λ (x : Bool). x || list_any (same_relation (tree_relation d)) (map tree_relation before)) (not_again d b all.0) ∙ none_before d before all.1
 
@@ -114,7 +115,8 @@ module _ (items tags steps : List Text) where
   one_without before (prescribes tag step) is all = simp (not_prescribed tag.0 step.0 before all, is.0, is.1)
   one_without before d is all = grind (arith, none_before d before all, is)
 
-  pub relations_without_fault : (before relations : List Relation) → AllByRecursion IsKnown (map shape_of relations) → Apart clash (map shape_of relations) → Clear clash (map shape_of before) (map shape_of relations)
+  pub relations_without_fault : (before relations : List Relation) → AllByRecursion IsKnown (map shape_of relations) → Apart clash (map shape_of relations)
+      → Clear clash (map shape_of before) (map shape_of relations)
       → relation_faults items tags steps (map tree_relation before) (map tree_relation relations) ≡ []
   relations_without_fault before [] is apart clear = refl
   relations_without_fault before (d ∷ relations) is apart clear =

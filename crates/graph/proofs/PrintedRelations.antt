@@ -72,7 +72,8 @@ pub record Shaped (shape : Shape) (relation : Relation) : Type 0 where
 
 -- ---- one relation
 
-arrow_printed : {stop other : ℕ → Bool} {place : ℕ} {from to : Text} {p q : List Piece} → Printed stop place from p → Printed other (place + length (from ++ codes " -> ")) to q → stop 32 ≡ false → other 59 ≡ false
+arrow_printed : {stop other : ℕ → Bool} {place : ℕ} {from to : Text} {p q : List Piece} → Printed stop place from p → Printed other (place + length (from ++ codes " -> ")) to q
+    → stop 32 ≡ false → other 59 ≡ false
     → Printed never place (arrow from to) (arrow_pieces p q)
 arrow_printed {stop} {other} {place} {from} {to} one two space_may end_may =
     let head = behind one (arrow_sign (place + length from)) (λ rest may. space_may) in
@@ -197,7 +198,8 @@ told test same those relations all =
 
 -- ---- one of the steps
 
-pub other_name : (name : Text) (steps : List Step) (index : ℕ) (step : Step) → slice_get steps index ≡ Some step → AllByRecursion (λ text. is_text text name ≡ false) (names_of_steps steps) → is_text step.name name ≡ false
+pub other_name : (name : Text) (steps : List Step) (index : ℕ) (step : Step) → slice_get steps index ≡ Some step → AllByRecursion (λ text. is_text text name ≡ false) (names_of_steps steps)
+    → is_text step.name name ≡ false
 other_name name steps index step there all =
     each_found (λ (it : Step). is_text it.name name ≡ false) steps index step there (each_unmapped (λ text. is_text text name ≡ false) (λ (it : Step). it.name) steps all)
 

@@ -204,7 +204,8 @@ right_arity : (g : Graph) (relations : List Related) (value : NamedStep) (step :
 right_arity g relations value step shown facts =
     simp (shown.name, facts.prescriber, facts.components, shown.parameters, equal_counts)
 
-not_twice : (before : List Text) (value : NamedStep) (name : Text) → text_of value.name ≡ name → AllByRecursion (λ other. is_text name other ≡ false) before → fault_if (has before value.name) StepTwice value.name.place ≡ []
+not_twice : (before : List Text) (value : NamedStep) (name : Text) → text_of value.name ≡ name → AllByRecursion (λ other. is_text name other ≡ false) before
+    → fault_if (has before value.name) StepTwice value.name.place ≡ []
 not_twice before value name same all = ap (λ (o : Option ℕ). fault_if (is_some o) StepTwice value.name.place) (ap (λ (t : Text). place_of before t) same ∙ nowhere before name all)
 
 pub steps_without_fault : (g : Graph) (relations : List Related) (before : List Text) (values : List NamedStep) (steps : List Step) → AreAll (Shown g) values steps → AllByRecursion (Facts g relations) steps

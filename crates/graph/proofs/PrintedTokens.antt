@@ -361,7 +361,8 @@ pub inside_rounds : {place : ℕ} {text : Text} {pieces : List Piece} (first : P
     → Printed never place (in_rounds text) ((first ∷ []) ++ pieces ++ a_sign sign.CloseRound)
 inside_rounds first is one = and (closed_sign _ 40 sign.OpenRound first is refl refl) (behind one (closed_sign _ 41 sign.CloseRound _ refl refl refl) (λ rest may. refl))
 
-pub inside_angles : {place : ℕ} {text : Text} {pieces : List Piece} → Fronts text → Printed after_word (place + 1) text pieces → Printed after_sign place (in_angles text) (a_sign sign.Less ++ pieces ++ a_sign sign.Greater)
+pub inside_angles : {place : ℕ} {text : Text} {pieces : List Piece} → Fronts text → Printed after_word (place + 1) text pieces
+    → Printed after_sign place (in_angles text) (a_sign sign.Less ++ pieces ++ a_sign sign.Greater)
 inside_angles {place} {text} fronts one =
     behind (open_sign place 60 sign.Less _ refl refl (λ e. omega (arith, e))) (behind one (open_sign _ 62 sign.Greater _ refl refl (λ e. omega (arith, e))) (λ rest may. refl))
     (λ rest may. subst (BeginsWithout after_sign) (sym (append_assoc text (codes ">") rest)) (fronts (codes ">" ++ rest)))

@@ -125,7 +125,8 @@ module _ (names : List Text) where
   abbrev comma : Sum → List Piece
   comma sum = a_sign sign.Comma ++ sum_pieces sum
 
-  more_read : (more : List Sum) (them : List NamedExpression) (es : List Expression) → AreSound (flat_map comma more) → flat_map sum_limits more ≡ [] → AreAll IsSum more them → AreExpressions names them es → AreComponents (length names) es
+  more_read : (more : List Sum) (them : List NamedExpression) (es : List Expression) → AreSound (flat_map comma more) → flat_map sum_limits more ≡ [] → AreAll IsSum more them
+      → AreExpressions names them es → AreComponents (length names) es
   more_read [] [] [] sound none are means = tt
   more_read (sum ∷ more) (it ∷ them) (e ∷ es) sound none are means =
       (component_read sum it e (search (front, rear)) (search first_empty) are.0 means.0, more_read more them es (search (front, rear)) (search second_empty) are.1 means.1)
@@ -136,7 +137,8 @@ module _ (names : List Text) where
   none_read [] (e ∷ es) none means = absurd means
   none_read (it ∷ them) es none means = absurd (cc)
 
-  pub components_read : (parts : Sums) (them : List NamedExpression) (es : List Expression) → AreSound (sums_pieces parts) → sums_limits parts ≡ [] → AreSums parts them → AreExpressions names them es → AreComponents (length names) es
+  pub components_read : (parts : Sums) (them : List NamedExpression) (es : List Expression) → AreSound (sums_pieces parts) → sums_limits parts ≡ [] → AreSums parts them
+      → AreExpressions names them es → AreComponents (length names) es
   components_read no_sums them es sound none are means = none_read them es are means
   components_read (sums first more) (it ∷ them) (e ∷ es) sound none are means =
       (component_read first it e (search (front, rear)) (search first_empty) are.0 means.0, more_read more them es (search (front, rear)) (search second_empty) are.1 means.1)
@@ -164,7 +166,8 @@ module _ (names : List Text) (sheet : Nameable) where
     ends_read around _ b is means = absurd (cc)
 
     mutual
-      statement_read : (around : ℕ) (statement : Statement B) (after : Statements B) (block : NamedBlock) (b : Block) → Rests names sheet Kind around (AreStatements IsOwn after) → AreSound (statement_pieces own_pieces statement)
+      statement_read : (around : ℕ) (statement : Statement B) (after : Statements B) (block : NamedBlock) (b : Block) → Rests names sheet Kind around (AreStatements IsOwn after)
+          → AreSound (statement_pieces own_pieces statement)
           → statement_limits own_limits around statement ≡ [] → IsStatement IsOwn statement block (AreStatements IsOwn after) → IsBlock names sheet block b → Kind around b
       statement_read around (own it) after block b rests sound none is means = own_read around it block b (AreStatements IsOwn after) rests sound none is means
       statement_read around (assigned it expr) after (Assign called value rest) (tree.Assign slot e more) rests sound none is means =
@@ -185,7 +188,8 @@ module _ (names : List Text) (sheet : Nameable) where
           (statements_read (suc around) inner one c (search (front, rear)) (search (first_empty, second_empty)) is.3 means.3) (rests rest more is.4 means.4)
       statement_read _ _ _ _ _ _ _ _ is means = absurd (assumption)
 
-      statements_read : (around : ℕ) (them : Statements B) (block : NamedBlock) (b : Block) → AreSound (statements_pieces own_pieces them) → statements_limits own_limits around them ≡ [] → AreStatements IsOwn them block
+      statements_read : (around : ℕ) (them : Statements B) (block : NamedBlock) (b : Block) → AreSound (statements_pieces own_pieces them) → statements_limits own_limits around them ≡ []
+          → AreStatements IsOwn them block
           → IsBlock names sheet block b → Kind around b
       statements_read around no_more block b sound none is means = ends_read around block b is means
       statements_read around (and_then first more) block b sound none is means =
@@ -194,7 +198,8 @@ module _ (names : List Text) (sheet : Nameable) where
 
   -- ---- keys, gets and puts
 
-  key_read : (collections : List Collection) (key : Key) (it : Name) (parts : List NamedExpression) (index : ℕ) (es : List Expression) → AreSound (sums_pieces key.components) → key_limits key ≡ [] → IsKey key it parts → IsKeyOf names collections it parts index es
+  key_read : (collections : List Collection) (key : Key) (it : Name) (parts : List NamedExpression) (index : ℕ) (es : List Expression) → AreSound (sums_pieces key.components)
+      → key_limits key ≡ [] → IsKey key it parts → IsKeyOf names collections it parts index es
       → AreComponents (length names) es
   key_read collections key it parts index es sound none is means = components_read names key.components parts es sound (search second_empty) is.1 means.1
 
@@ -204,14 +209,16 @@ module _ (names : List Text) (sheet : Nameable) where
   write_kind : IsKind (length names) (IsWriteBlock (length names))
   write_kind = assumption
 
-  get_read : (around : ℕ) (get : Get) (block : NamedBlock) (b : Block) (Rest : NamedBlock → Type 0) → Rests names sheet (IsReadBlock (length names)) around Rest → AreSound (get_pieces get) → get_limits get ≡ [] → IsGet get block Rest
+  get_read : (around : ℕ) (get : Get) (block : NamedBlock) (b : Block) (Rest : NamedBlock → Type 0) → Rests names sheet (IsReadBlock (length names)) around Rest → AreSound (get_pieces get)
+      → get_limits get ≡ [] → IsGet get block Rest
       → IsBlock names sheet block b → IsReadBlock (length names) around b
   get_read around get (tree.Get called named key rest) (tree.Get slot collection es more) Rest rests sound none is means =
       let parts : AreSound (sums_pieces get.item.components ++ a_sign sign.CloseBracket ++ a_sign sign.Semicolon) = sound.1.1.1.1.1 in
       (slot_within names called slot means.0, key_read sheet.items get.item named key.items collection.0 es (search (front, parts)) (search second_empty) is.1 means.1, rests rest more is.2 means.2)
   get_read _ _ _ _ _ _ _ _ is means = absurd (assumption)
 
-  put_read : (around : ℕ) (put : Put) (block : NamedBlock) (b : Block) (Rest : NamedBlock → Type 0) → Rests names sheet (IsWriteBlock (length names)) around Rest → AreSound (put_pieces put) → put_limits put ≡ [] → IsPut put block Rest
+  put_read : (around : ℕ) (put : Put) (block : NamedBlock) (b : Block) (Rest : NamedBlock → Type 0) → Rests names sheet (IsWriteBlock (length names)) around Rest → AreSound (put_pieces put)
+      → put_limits put ≡ [] → IsPut put block Rest
       → IsBlock names sheet block b → IsWriteBlock (length names) around b
   put_read around (put_item item value) (PutItem named key it rest) (tree.PutItem collection es e more) Rest rests sound none is means =
       let parts : AreSound (sums_pieces item.components ++ a_sign sign.CloseBracket ++ a_sign sign.Assign ++ expr_pieces value ++ a_sign sign.Semicolon) = sound.1.1.1 in (
@@ -224,10 +231,12 @@ module _ (names : List Text) (sheet : Nameable) where
       (key_read sheet.tags tag named key.items collection.0 es (search (front, parts)) none is.0 means.0, rests rest more is.1 means.1)
   put_read _ _ _ _ _ _ _ _ is means = absurd (assumption)
 
-  pub read_block_read : (them : Statements Get) (block : NamedBlock) (b : Block) → AreSound (statements_pieces get_pieces them) → statements_limits get_limits 0 them ≡ [] → AreStatements IsGet them block → IsBlock names sheet block b
+  pub read_block_read : (them : Statements Get) (block : NamedBlock) (b : Block) → AreSound (statements_pieces get_pieces them) → statements_limits get_limits 0 them ≡ []
+      → AreStatements IsGet them block → IsBlock names sheet block b
       → IsReadBlock (length names) 0 b
   read_block_read = statements_read (IsReadBlock (length names)) read_kind IsGet get_pieces get_limits get_read 0
 
-  pub write_block_read : (them : Statements Put) (block : NamedBlock) (b : Block) → AreSound (statements_pieces put_pieces them) → statements_limits put_limits 0 them ≡ [] → AreStatements IsPut them block → IsBlock names sheet block b
+  pub write_block_read : (them : Statements Put) (block : NamedBlock) (b : Block) → AreSound (statements_pieces put_pieces them) → statements_limits put_limits 0 them ≡ []
+      → AreStatements IsPut them block → IsBlock names sheet block b
       → IsWriteBlock (length names) 0 b
   write_block_read = statements_read (IsWriteBlock (length names)) write_kind IsPut put_pieces put_limits put_read 0

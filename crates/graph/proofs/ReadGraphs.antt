@@ -109,7 +109,8 @@ module _ (text : StepText) (sound : AreSound (step_pieces text)) (none : step_li
     write = rw means.names (write_block_read (names_of it) (sheet_in tree it) text.write it.write _ write_sound (search (first_empty, second_empty)) is.write means.write);
   }
 
-pub steps_read : (tree : Tree) (g : Graph) (before : ℕ) (names : List Text) (texts : List StepText) (them : List NamedStep) (steps : List Step) → AreSound (flat_map step_pieces texts) → steps_limits before texts ≡ []
+pub steps_read : (tree : Tree) (g : Graph) (before : ℕ) (names : List Text) (texts : List StepText) (them : List NamedStep) (steps : List Step) → AreSound (flat_map step_pieces texts)
+    → steps_limits before texts ≡ []
     → step_faults (tags_of tree.declarations.items) tree.relations.items names them ≡ [] → AreAll IsStep texts them → AreAll (IsStepOf tree g) them steps → AllByRecursion IsTextStep steps
 steps_read tree g before names [] [] [] sound none clear are mean = tt
 steps_read tree g before names (text ∷ texts) (it ∷ them) (step ∷ steps) sound none clear are mean =

@@ -29,7 +29,8 @@ not_there : (place : Option ℕ) → not (is_some place) ≡ is_none place
 not_there place = grind arith
 
 -- a lookup that found nothing
-pub in_vain : (place : Option ℕ) (names : List Text) (name : Name) (error : GraphError) → place ≡ place_of names (text_of name) → fault_if (is_none place) error name.place ≡ fault_if (not (has names name)) error name.place
+pub in_vain : (place : Option ℕ) (names : List Text) (name : Name) (error : GraphError) → place ≡ place_of names (text_of name)
+    → fault_if (is_none place) error name.place ≡ fault_if (not (has names name)) error name.place
 in_vain place names name error is = ap (λ (b : Bool). fault_if b error name.place) (sym (not_there place) ∙ ap (λ (p : Option ℕ). not (is_some p)) is)
 
 pub is_there : (place : Option ℕ) (error : GraphError) (position : ℕ) → fault_if (not (is_some place)) error position ≡ [] → (k : ℕ) × (place ≡ Some k)
@@ -55,7 +56,8 @@ module _ (items tags steps : List Text) (before : List Relation) (old : Relation
   pub tag_puts_stay : (relation : Relation) → ((step name : Text) → is_tag_put step name relation ≡ false) → AreRows is_tag_put steps tags (before ++ relation ∷ []) (bits old.tag_puts)
   tag_puts_stay relation other = rows_stay is_tag_put steps tags before relation (bits old.tag_puts) other are.tag_puts
 
-  pub environment_items_stay : (relation : Relation) → ((name : Text) → is_environment_item_put name relation ≡ false) → AreMarks is_environment_item_put items (before ++ relation ∷ []) old.environment_item_puts.items
+  pub environment_items_stay : (relation : Relation) → ((name : Text) → is_environment_item_put name relation ≡ false)
+      → AreMarks is_environment_item_put items (before ++ relation ∷ []) old.environment_item_puts.items
   environment_items_stay relation other = marks_stay is_environment_item_put items before relation old.environment_item_puts.items other are.environment_item_puts
 
   pub environment_tags_stay : (relation : Relation) → ((name : Text) → is_environment_tag_put name relation ≡ false) → AreMarks is_environment_tag_put tags (before ++ relation ∷ []) old.environment_tag_puts.items
@@ -83,7 +85,8 @@ module _ (items tags steps : List Text) (before : List Relation) (old : Relation
       faults : prescription_faults old.prescribers.items tp a sp b ≡ relation_fault items tags steps before (related.Prescribes a b)
       faults = λ i. in_vain tp tags a UnknownName tag_is i ++ or_else (in_vain sp steps b StepMissing step_is i) (fault_if (once i) TwoPrescribers b.place)
 
-      its_own : list.items ≡ with_prescriber old.prescribers.items sp tp → relation_fault items tags steps before (related.Prescribes a b) ≡ [] → ArePrescribers tags steps (before ++ related.Prescribes a b ∷ []) list.items
+      its_own : list.items ≡ with_prescriber old.prescribers.items sp tp → relation_fault items tags steps before (related.Prescribes a b) ≡ []
+          → ArePrescribers tags steps (before ++ related.Prescribes a b ∷ []) list.items
       its_own marks none =
           let tag = is_there (place_of tags (text_of a)) UnknownName a.place (first_empty (unknown tags a) _ none) in
           let alone = first_none (missing steps b) (prescribed_before before b) (second_empty (unknown tags a) _ none) in
@@ -221,7 +224,8 @@ module _ (items tags steps : List Text) (all : List Relation) where
       (so.left ∙ ap (relation_faults items tags steps (take index all)) (drop_all index all (omega (arith, end))), subst (λ (l : List Relation). AreRelations items tags steps l them) (take_all index all (omega (arith, end))) so.are)
 
 -- where nothing is marked, no relation has been added yet
-pub begun : (items tags steps : List Text) (all : List Relation) (numbers : Numbers) (i t s : ℕ) (them : Relations) → AreNumbers items tags steps numbers → i ≡ length numbers.items.now → t ≡ length numbers.tags.now
+pub begun : (items tags steps : List Text) (all : List Relation) (numbers : Numbers) (i t s : ℕ) (them : Relations) → AreNumbers items tags steps numbers → i ≡ length numbers.items.now
+    → t ≡ length numbers.tags.now
     → length steps ≡ s → IsUnmarked i t s them → RelatedSoFar items tags steps all 0 them
 begun items tags steps all numbers i t s them are of_items of_tags of_steps none =
     let is : i ≡ length items = of_items ∙ sym (length-map numbers.items.now (λ entry. entry.0)) ∙ ap length are.items_are in

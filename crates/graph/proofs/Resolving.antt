@@ -40,7 +40,8 @@ one_less left all them new it so one two = record {
   numbered = ap (λ (l : List Collection). l ++ left) two ∙ append_assoc (collections_of them) (it ∷ []) left ∙ so.numbered;
 }
 
-one_name : (them new : Collections) (name : Name) (components : ℕ) → collections_of new ≡ collections_of them ++ of_name name components ∷ [] → names_numbered new.numbered ≡ names_numbered them.numbered ++ text_of name ∷ []
+one_name : (them new : Collections) (name : Name) (components : ℕ) → collections_of new ≡ collections_of them ++ of_name name components ∷ []
+    → names_numbered new.numbered ≡ names_numbered them.numbered ++ text_of name ∷ []
 one_name them new name components more =
     items_named new.numbered ∙ ap names_in more ∙ map-append (λ (it : Collection). it.name) (collections_of them) (of_name name components ∷ [])
     ∙ ap (λ (l : List Text). l ++ text_of name ∷ []) (sym (items_named them.numbered))
@@ -115,7 +116,8 @@ module _ (tree : Tree) where
     its_length = length-map tree.steps.items (λ (step : NamedStep). text_of step.name) ∙ sym count
 
     -- the first fault of the relations
-    pub relation_first : (fault : PlacedFault) → ((a b c : List Text) → AreNumbers a b c numbers → length c ≡ many → IsFirst (relation_faults a b c [] tree.relations.items) fault) → IsFirst (tree_faults tree) fault
+    pub relation_first : (fault : PlacedFault) → ((a b c : List Text) → AreNumbers a b c numbers → length c ≡ many → IsFirst (relation_faults a b c [] tree.relations.items) fault)
+        → IsFirst (tree_faults tree) fault
     relation_first fault first =
         in_front (declaration_faults [] [] tree.declarations.items ++ relation_faults item_names tag_names its_steps [] tree.relations.items) _ fault
         (behind_none (declaration_faults [] [] tree.declarations.items) _ fault none (first item_names tag_names its_steps numbers_are its_length))

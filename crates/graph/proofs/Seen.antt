@@ -49,7 +49,8 @@ no_step_value steps number none = none_mapped (λ (entry : Text × Prescribed). 
 pub no_step_name : (steps : List (Text × Prescribed)) (number : ℕ) → None ≡ slice_get (names_numbered steps) number → None ≡ slice_get (map step_seen steps) number
 no_step_name steps number none = none_mapped (λ (entry : Text × Prescribed). entry.0) step_seen (slice_get steps number) (none ∙ slice_get-map (λ entry. entry.0) steps number) ∙ sym (slice_get-map step_seen steps number)
 
-its_entry : (steps : List (Text × Prescribed)) (number : ℕ) (it : Prescribed) → Some it ≡ option_map (λ entry. entry.1) (slice_get steps number) → (name : Text) × (slice_get (map step_seen steps) number ≡ Some (step_seen (name, it)))
+its_entry : (steps : List (Text × Prescribed)) (number : ℕ) (it : Prescribed) → Some it ≡ option_map (λ entry. entry.1) (slice_get steps number)
+    → (name : Text) × (slice_get (map step_seen steps) number ≡ Some (step_seen (name, it)))
 its_entry [] number it there = absurd (cc)
 its_entry (entry ∷ steps) zero it there =
     let same : entry.1 ≡ it = cc in

@@ -49,7 +49,8 @@ row_told is names relations row distinct are =
     agree (λ name. list_any (is name) relations) names row are.long
     (λ place name there. are.each name ∙ ap (mark_at row) (own_place names place name distinct there))
 
-marks_of : (is : Text → Text → Relation → Bool) (steps names : List Text) (relations : List Relation) (rows : List (List Bool)) (number : ℕ) (step : Text) → number < length steps → place_of steps step ≡ Some number
+marks_of : (is : Text → Text → Relation → Bool) (steps names : List Text) (relations : List Relation) (rows : List (List Bool)) (number : ℕ) (step : Text) → number < length steps
+    → place_of steps step ≡ Some number
     → AreRows is steps names relations rows → AreMarks (is step) names relations (get_or rows number [])
 marks_of is steps names relations rows number step within place are = record {
   long = each_at (λ row. length row ≡ length names) rows number [] (omega (arith, are.long)) are.wide;
@@ -96,7 +97,8 @@ module _ (tree : Tree) (resolved : Resolved) (small : IsSmall tree) (none : tree
   its_tag_puts row = rows_told is_tag_put _ _ tree.relations.items resolved.relations.tag_puts.items number (text_of step.name) row is_within its_place (tags_apart tree none) are.relations.tag_puts
 
   -- the sheet that is made of the tables
-  pub is_sheet : (sheet : Nameable) (a b c : Vec Bool Global) → sheet.items ≡ resolved.items.declared.items → sheet.tags ≡ resolved.tags.declared.items → sheet.reads ≡ a.items → sheet.item_puts ≡ b.items → sheet.tag_puts ≡ c.items
+  pub is_sheet : (sheet : Nameable) (a b c : Vec Bool Global) → sheet.items ≡ resolved.items.declared.items → sheet.tags ≡ resolved.tags.declared.items → sheet.reads ≡ a.items
+      → sheet.item_puts ≡ b.items → sheet.tag_puts ≡ c.items
       → a ≡ get_or resolved.relations.reads.items number a → b ≡ get_or resolved.relations.item_puts.items number b → c ≡ get_or resolved.relations.tag_puts.items number c → sheet ≡ sheet_in tree step
   is_sheet sheet a b c one two reads item_puts tag_puts at also last = λ i. record {
     items = (one ∙ are.items.declared) i;
@@ -117,7 +119,8 @@ module _ (tree : Tree) (resolved : Resolved) (small : IsSmall tree) (none : tree
       }
 
   -- the tag that prescribes it, and its number
-  tag_told : (tag : Option Text) (at : Option TagCollection) → prescriber_of tree.relations.items (text_of step.name) ≡ tag → arity_faults (tags_of tree.declarations.items) tag step ≡ [] → IsPrescriber tags tag at
+  tag_told : (tag : Option Text) (at : Option TagCollection) → prescriber_of tree.relations.items (text_of step.name) ≡ tag → arity_faults (tags_of tree.declarations.items) tag step ≡ []
+      → IsPrescriber tags tag at
       → (it : TagCollection) × (at ≡ Some it) × IsPrescribedBy tree step it.0
   tag_told None at first right by = absurd (cc)
   tag_told (Some tag) None first right by = absurd by

@@ -43,7 +43,8 @@ record AreFew (items tags : ℕ) (ds : List Declared) : Type 0 where
   short_items : AllByRecursion Short (items_of ds)
   short_tags : AllByRecursion Short (tags_of ds)
 
-declarations : (items tags : ℕ) (texts : List Declaration) (ds : List Declared) → items ≤ MOST_COLLECTIONS → tags ≤ MOST_COLLECTIONS → declarations_limits items tags texts ≡ [] → AreAll IsDeclaration texts ds → AreFew items tags ds
+declarations : (items tags : ℕ) (texts : List Declaration) (ds : List Declared) → items ≤ MOST_COLLECTIONS → tags ≤ MOST_COLLECTIONS → declarations_limits items tags texts ≡ []
+    → AreAll IsDeclaration texts ds → AreFew items tags ds
 declarations items tags [] [] one two none all = record { few_items = omega arith; few_tags = omega arith; short_items = tt; short_tags = tt }
 declarations items tags (item_declared it components ∷ texts) (declared.Item name number ∷ ds) one two none all =
     let fits = room MOST_COLLECTIONS items it.1 (search (first_empty, second_empty)) in

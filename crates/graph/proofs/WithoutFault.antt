@@ -37,7 +37,8 @@ use Rattle.graph.proofs.Lists.{each_found}
 -- ---- keys of declared collections
 
 -- a collection that is there and allowed, with this number of components, gives no fault
-known_clear : (collections : List Collection) (allowed : List Bool) (error : CheckError) (name : Name) (parts : List NamedExpression) (number components : ℕ) → number_of collections name ≡ Some number → IsAllowed collections allowed number components
+known_clear : (collections : List Collection) (allowed : List Bool) (error : CheckError) (name : Name) (parts : List NamedExpression) (number components : ℕ)
+    → number_of collections name ≡ Some number → IsAllowed collections allowed number components
     → length parts ≡ components → known_faults collections allowed error name parts (number_of collections name) ≡ []
 known_clear collections allowed error name parts number components found is counted =
     let has : components_of collections number ≡ Some (length parts) = ap (option_map (λ (it : Collection). it.components)) is.declared.1 ∙ ap (λ (n : ℕ). Some n) (is.declared.2 ∙ sym counted) in
