@@ -4,7 +4,8 @@ use Rattle.std.specs.Prelude.{⊤}
 use Rattle.steptree.specs.declared.step.Name.{Name}
 use Rattle.steptree.specs.Tree as tree
 use Rattle.steptree.specs.Tree.{NamedExpression, Number, Variable, Negation, Operation, NamedBlock, End, Assign, If, For, PutItem, PutTag, Expression, Block}
-use Rattle.syntax.specs.Grammar.{Named, Expr, sum_alone, compared, Sum, prod_alone, added, Prod, unary_alone, multiplied, Unary, negated, literal, variable, bracketed, Sums, no_sums, sums, Key, Statement, own, assigned, if_alone, if_else, for, Statements, no_more, and_then, Get, Put, put_item, put_tag, StepText, GraphText}
+use Rattle.syntax.specs.Grammar.{Named, Expr, sum_alone, compared, Sum, prod_alone, added, Prod, unary_alone, multiplied, Unary, negated, literal, variable, bracketed, Sums, no_sums, sums, Key}
+use Rattle.syntax.specs.Grammar.{Statement, own, assigned, if_alone, if_else, for, Statements, no_more, and_then, Get, Put, put_item, put_tag, StepText, GraphText}
 use Rattle.syntax.specs.Tree.{IsName, AreAll, IsExpr, IsSum, IsProd, IsUnary, AreSums, IsKey, IsStatement, AreStatements, IsGet, IsPut, IsStep, IsTree}
 use Rattle.steptree.specs.Names.{Text, place_of, names_in, names_of}
 use Rattle.steptree.specs.Resolved.{IsExpression, AreExpressions, IsKey as IsKeyOf, IsBlock}

@@ -1,5 +1,6 @@
 -- Names of steps and in steps, and the steps, one after another.
-use Rattle.std.proofs.Common.{◌≡◌, ◌<◌, ℕ, true, List, [], ◌∷◌, ◌++◌, length, get_or, take, drop, Some, None, Option, if◌then◌else◌, refl, sym, ap, subst, ◌∙◌, ◌+◌, arith, append_assoc, is_some, zero, suc, Bool, false, not, slice_get}
+use Rattle.std.proofs.Common.{◌≡◌, ◌<◌, ℕ, true, List, [], ◌∷◌, ◌++◌, length, get_or, take, drop, Some, None, Option, if◌then◌else◌, refl, sym, ap, subst, ◌∙◌, ◌+◌, arith, append_assoc, is_some, zero}
+use Rattle.std.proofs.Common.{suc, Bool, false, not, slice_get}
 use Rattle.std.proofs.Math.Seq.{take-length}
 use Rattle.std.proofs.lemmas.List.{take_more, map-append, length-map, length-take-le, append-nil, take-append-drop, drop_all, get_or_default}
 use Rattle.steptree.specs.declared.step.Name.{Name}
@@ -166,7 +167,8 @@ module _ (tags : List Collection) (items : List Text) (all : List Relation) (ste
         let here : place_of (step_names steps) (text_of this.name) ≡ Some index = sym found ∙ its_place place index twice tells once in
         let inside : index < length relations.prescribers.items = omega (arith, within, are.prescribers.long, length-map steps (λ (step : NamedStep). text_of step.name)) in
         arity tags this (prescriber_of all (text_of this.name)) prescriber
-        (subst (IsPrescriber (names_in tags) (prescriber_of all (text_of this.name))) (ap (prescriber_at relations.prescribers.items) here ∙ get_or_default _ index None prescriber inside ∙ sym by) (are.prescribers.each (text_of this.name)))
+        (subst (IsPrescriber (names_in tags) (prescriber_of all (text_of this.name))) (ap (prescriber_at relations.prescribers.items) here ∙ get_or_default _ index None prescriber inside ∙ sym by)
+        (are.prescribers.each (text_of this.name)))
         ∙ ap (λ (o : Option ℕ). components_faults o this) (sym theirs)
 
     same_prescription : or_else (fault_if (has (step_names (take index steps)) this.name) StepTwice this.name.place) (arity_faults tags (prescriber_of all (text_of this.name)) this) ≡ prescription

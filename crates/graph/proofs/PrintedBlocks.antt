@@ -8,7 +8,8 @@ use Rattle.steptree.specs.Sheet.{IsAllowed, KeepsTo}
 use Rattle.steptree.specs.Nameable.{Collection, Nameable}
 use Rattle.steptree.specs.Limits.{AreFew}
 use Rattle.graph.specs.Textual.{IsGraphName, AreNames, IsTextExpression, AreComponents, IsReadBlock, IsWriteBlock}
-use Rattle.graph.proofs.PrintedTokens.{found_at, never, Printed, behind, and, nothing, printed_name, no_name_limit, no_more_limit, inside, lined, word_first, semicolon, close_brace, open_brace, equals, dots, among, otherwise, in_order, inside_rounds, inside_brackets, inside_angles}
+use Rattle.graph.proofs.PrintedTokens.{found_at, never, Printed, behind, and, nothing, printed_name, no_name_limit, no_more_limit, inside, lined, word_first, semicolon, close_brace, open_brace}
+use Rattle.graph.proofs.PrintedTokens.{equals, dots, among, otherwise, in_order, inside_rounds, inside_brackets, inside_angles}
 use Rattle.graph.proofs.Lists.{each_at, no_both}
 use Rattle.steptree.specs.Tree.{Expression, Block, End, Assign, If, For, NamedBlock, Get, PutItem, PutTag}
 use Rattle.steptree.specs.Resolved.{IsBlock}

@@ -13,7 +13,8 @@ use Rattle.syntax.specs.Limits.{name_limits, names_behind, all_names, declared_l
 use Rattle.syntax.specs.Tree.{IsName, AreAll, IsDeclaration}
 use Rattle.graph.specs.Textual.{IsGraphName}
 use Rattle.graph.specs.Canonical.{joined, with_colon, letters, component_names, variables_line, in_brackets, in_angles, line}
-use Rattle.graph.proofs.PrintedTokens.{after_word, never, anything, Printed, behind, and, narrowed, nothing, printed_name, no_name_limit, inside, lined, word_first, semicolon, and_blanks, no_more_limit, inside_brackets, inside_angles}
+use Rattle.graph.proofs.PrintedTokens.{after_word, never, anything, Printed, behind, and, narrowed, nothing, printed_name, no_name_limit, inside, lined, word_first, semicolon, and_blanks}
+use Rattle.graph.proofs.PrintedTokens.{no_more_limit, inside_brackets, inside_angles}
 use Rattle.graph.proofs.PrintedExpressions.{OnePrinted, joined_printed, no_all, colon, AllPrinted, all_printed, key_fronts}
 use Rattle.graph.proofs.PrintedValues.{name_of}
 use Rattle.graph.proofs.PrintedApart.{take_each, Apart, Clear, clear_of_both, nowhere}

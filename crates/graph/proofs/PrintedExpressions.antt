@@ -8,7 +8,8 @@ use Rattle.syntax.specs.Spelled.{Piece, a_sign, at, sign_at, expr_pieces, unary_
 use Rattle.syntax.specs.Tree.{AreAll, IsExpr, IsUnary, IsSum, IsKey}
 use Rattle.steptree.specs.Names.{Text}
 use Rattle.graph.specs.Canonical.{joined, operator_text, expression_text, with_colon}
-use Rattle.graph.proofs.PrintedTokens.{after_word, never, anything, Printed, behind, and, and_blanks, narrowed, nothing, closed_sign, after_sign, and_space, sign_and_space, open_sign, double_sign, Fronts, printed_name, name_fronts, no_name_limit, no_more_limit, printed_number, number_fronts, found_at, within_limit, inside_rounds, in_order}
+use Rattle.graph.proofs.PrintedTokens.{after_word, never, anything, Printed, behind, and, and_blanks, narrowed, nothing, closed_sign, after_sign, and_space, sign_and_space, open_sign, double_sign}
+use Rattle.graph.proofs.PrintedTokens.{Fronts, printed_name, name_fronts, no_name_limit, no_more_limit, printed_number, number_fronts, found_at, within_limit, inside_rounds, in_order}
 use Rattle.std.specs.Prelude.{max}
 use Rattle.steptree.specs.declared.expression.Operator.{Operator}
 use Rattle.steptree.specs.declared.expression.Operator.TheVariants as operator
@@ -16,7 +17,8 @@ use Rattle.steptree.specs.Tree.{Expression, Number, Variable, Negation, Operatio
 use Rattle.steptree.specs.Resolved.{IsExpression, AreExpressions}
 use Rattle.syntax.specs.declared.limits.TheConstants.{MOST_BRACKETS, MOST_DEPTH}
 use Rattle.syntax.specs.declared.token.Symbol.{Symbol}
-use Rattle.syntax.specs.Grammar.{equal, not_equal, less, less_or_equal, greater, greater_or_equal, plus, minus, times, over, modulo, Expr, sum_alone, compared, prod_alone, added, unary_alone, multiplied, Unary, negated, literal, variable, bracketed, Position, Sum, no_sums, sums, Key}
+use Rattle.syntax.specs.Grammar.{equal, not_equal, less, less_or_equal, greater, greater_or_equal, plus, minus, times, over, modulo, Expr, sum_alone, compared, prod_alone, added, unary_alone}
+use Rattle.syntax.specs.Grammar.{multiplied, Unary, negated, literal, variable, bracketed, Position, Sum, no_sums, sums, Key}
 use Rattle.syntax.specs.Limits.{expr_depth, unary_depth, expr_within, unary_within, unary_first, sum_limits, sums_limits, key_limits}
 use Rattle.graph.specs.Graph.{Graph}
 use Rattle.graph.specs.Textual.{depth_of, IsSpelled, AreNames, IsGraphName, IsTextExpression, AreComponents}

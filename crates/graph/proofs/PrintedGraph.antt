@@ -1,5 +1,6 @@
 -- The canonical text of a graph that a text can give reads as that graph.
-use Rattle.std.proofs.Common.{◌≡◌, ℕ, zero, suc, ◌*◌, ◌^◌, ◌<◌, ◌≤◌, Bool, true, false, if◌then◌else◌, List, [], ◌∷◌, length, get_or, map, Option, Some, option_map, sym, ap, subst, ◌∙◌, arith, length-append, ◌+◌, ◌++◌, append_assoc}
+use Rattle.std.proofs.Common.{◌≡◌, ℕ, zero, suc, ◌*◌, ◌^◌, ◌<◌, ◌≤◌, Bool, true, false, if◌then◌else◌, List, [], ◌∷◌, length, get_or, map, Option, Some, option_map, sym, ap, subst, ◌∙◌, arith}
+use Rattle.std.proofs.Common.{length-append, ◌+◌, ◌++◌, append_assoc}
 use Rattle.std.proofs.lemmas.List.{length-map, append-nil}
 use Rattle.std.specs.Prelude.{is_some, All, slice_get}
 use Rattle.std.specs.List.{AllByRecursion, flat_map}
@@ -16,7 +17,8 @@ use Rattle.graph.specs.Prescribed.{names_of_steps}
 use Rattle.graph.specs.Canonical.{those, in_brackets, in_angles, step_text, step_relations, environment_relations, canonical}
 use Rattle.graph.proofs.PrintedTokens.{found_at, never, anything, Printed, and, whole, in_order}
 use Rattle.graph.proofs.PrintedBlocks.{many_names}
-use Rattle.graph.proofs.PrintedDeclarations.{Declarable, declaration_line, item_lines_printed, tag_lines_printed, Declares, tree_declaration, are_declarations, items_back, no_items, no_tags, tags_back, declarations_within, without_fault}
+use Rattle.graph.proofs.PrintedDeclarations.{Declarable, declaration_line, item_lines_printed, tag_lines_printed, Declares, tree_declaration, are_declarations, items_back, no_items, no_tags}
+use Rattle.graph.proofs.PrintedDeclarations.{tags_back, declarations_within, without_fault}
 use Rattle.graph.proofs.PrintedApart.{each_marked, fewer_marked, Apart, apart, Clear}
 use Rattle.graph.proofs.PrintedRelations.{Shape, shape_of, Shaped, HasGoodNames, step_shapes, environment_shapes, shapes, tree_relation, shapes_back, shape_line, relations_printed, relation_lines, are_relations, Names}
 use Rattle.graph.proofs.PrintedMarks.{prescribed, clash, IsThere, IsKnown, relations_without_fault, shapes_apart, marks_told, step_marks_told, in_lists}

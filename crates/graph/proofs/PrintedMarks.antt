@@ -14,7 +14,8 @@ use Rattle.graph.specs.Tree.{each_of, prescriber_of}
 use Rattle.graph.specs.Prescribed.{names_of_steps}
 use Rattle.graph.specs.Canonical.{those}
 use Rattle.graph.proofs.PrintedApart.{any_and, Apart, flipped, is_among, marks_back, any_mapped, any_flat, Clear, apart_both, clear_of_both, marked_apart}
-use Rattle.graph.proofs.PrintedRelations.{Shape, a_prescription, a_read, an_item_put, a_tag_put, shape_of, Shaped, step_shapes, environment_shapes, shapes, tree_relation, bare, shapes_back, told, other_name, only_one, any_false, an_environment_item, an_environment_tag, an_environment_get, Names}
+use Rattle.graph.proofs.PrintedRelations.{Shape, a_prescription, a_read, an_item_put, a_tag_put, shape_of, Shaped, step_shapes, environment_shapes, shapes, tree_relation, bare, shapes_back, told}
+use Rattle.graph.proofs.PrintedRelations.{other_name, only_one, any_false, an_environment_item, an_environment_tag, an_environment_get, Names}
 use Rattle.graph.proofs.Texts.{itself, same_both_ways}
 use Rattle.std.proofs.lemmas.List.{map-append}
 use Rattle.graph.specs.Faults.{same_relation, relation_fault, relation_faults}

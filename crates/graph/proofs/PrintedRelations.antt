@@ -12,7 +12,8 @@ use Rattle.syntax.specs.Limits.{name_limits, relation_limits}
 use Rattle.graph.specs.Graph.{Graph, Step}
 use Rattle.graph.specs.Textual.{IsGraphName}
 use Rattle.graph.specs.Canonical.{in_brackets, in_angles, in_rounds, arrow, line, those, step_relations, environment_relations}
-use Rattle.graph.proofs.PrintedTokens.{never, anything, Printed, behind, and, and_blanks, printed_name, name_fronts, no_name_limit, word_at, a_word_alone, semicolon, arrow_sign, colons, inside_rounds, inside_brackets, inside_angles}
+use Rattle.graph.proofs.PrintedTokens.{never, anything, Printed, behind, and, and_blanks, printed_name, name_fronts, no_name_limit, word_at, a_word_alone, semicolon, arrow_sign, colons, inside_rounds}
+use Rattle.graph.proofs.PrintedTokens.{inside_brackets, inside_angles}
 use Rattle.graph.proofs.PrintedExpressions.{OnePrinted, AllPrinted, all_printed}
 use Rattle.graph.proofs.Lists.{no_both, any_agree, each_found, each_unmapped}
 use Rattle.std.specs.Prelude.{slice_get}

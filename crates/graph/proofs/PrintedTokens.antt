@@ -1,5 +1,6 @@
 -- A text that is printed token by token: which tokens it is, wherever it is and whatever is printed after it. Names, words, numbers and lines.
-use Rattle.std.proofs.Common.{◌≡◌, ◌≢◌, ℕ, ◌+◌, ◌-◌, ◌<◌, ◌≤◌, Bool, true, false, ◌||◌, ◌==◌, List, [], ◌∷◌, ◌++◌, length, codes, refl, sym, ap, subst, ◌∙◌, arith, append_assoc, length-append, zero, suc, ◌^◌, if◌then◌else◌, get_or, Some, nat_lt}
+use Rattle.std.proofs.Common.{◌≡◌, ◌≢◌, ℕ, ◌+◌, ◌-◌, ◌<◌, ◌≤◌, Bool, true, false, ◌||◌, ◌==◌, List, [], ◌∷◌, ◌++◌, length, codes, refl, sym, ap, subst, ◌∙◌, arith, append_assoc, length-append, zero}
+use Rattle.std.proofs.Common.{suc, ◌^◌, if◌then◌else◌, get_or, Some, nat_lt}
 use Rattle.std.specs.Prelude.{⊤}
 use Rattle.std.specs.List.{AllByRecursion}
 use Rattle.std.proofs.lemmas.List.{append-nil}
@@ -104,7 +105,12 @@ blanks_first place blanks rest (spot ∷ more) blank next = (
 )
 
 pub blank : (place : ℕ) (blanks : List ℕ) → AreBlank blanks → Printed never place blanks []
-blank place blanks are_blank = record { spots = []; lexes = λ rest more may next. blanks_first place blanks rest more are_blank next; are = tt; ascii = each_weaker (λ byte. is_blank byte ≡ true) (λ byte. byte < 128) (λ byte it. grind (arith, nat_tests)) blanks are_blank }
+blank place blanks are_blank = record {
+  spots = [];
+  lexes = λ rest more may next. blanks_first place blanks rest more are_blank next;
+  are = tt;
+  ascii = each_weaker (λ byte. is_blank byte ≡ true) (λ byte. byte < 128) (λ byte it. grind (arith, nat_tests)) blanks are_blank;
+}
 
 -- a text and blanks
 pub and_blanks : {stop : ℕ → Bool} {place : ℕ} {a : List ℕ} {p : List Piece} → Printed stop place a p → (blanks : List ℕ) → AreBlank blanks

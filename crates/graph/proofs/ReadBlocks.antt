@@ -5,7 +5,8 @@ use Rattle.std.specs.Prelude.{⊤}
 use Rattle.std.specs.List.{AllByRecursion, flat_map}
 use Rattle.syntax.specs.declared.token.Word.{Word}
 use Rattle.syntax.specs.Tokens.{Lexeme, name, number, word, symbol, unknown, GREATEST, IsWordText, word_text, Stands, Spot, AreTokens}
-use Rattle.syntax.specs.Grammar.{Position, Expr, sum_alone, compared, Sum, prod_alone, added, Prod, unary_alone, multiplied, Unary, negated, literal, variable, bracketed, Sums, no_sums, sums, Key, Statement, own, assigned, if_alone, if_else, for, Statements, no_more, and_then, Get, Put, put_item, put_tag}
+use Rattle.syntax.specs.Grammar.{Position, Expr, sum_alone, compared, Sum, prod_alone, added, Prod, unary_alone, multiplied, Unary, negated, literal, variable, bracketed, Sums, no_sums, sums, Key}
+use Rattle.syntax.specs.Grammar.{Statement, own, assigned, if_alone, if_else, for, Statements, no_more, and_then, Get, Put, put_item, put_tag}
 use Rattle.syntax.specs.Spelled.{Piece, plain, at, IsPiece, ArePieces, a_sign, expr_pieces, sum_pieces, prod_pieces, unary_pieces, sums_pieces, statement_pieces, statements_pieces, get_pieces, put_pieces}
 use Rattle.std.proofs.lemmas.Option.{slice_get_within}
 use Rattle.steptree.specs.Tree.{Expression, NamedExpression, Number, Variable, Negation, Operation, Block, NamedBlock, End, Assign, If, For, PutItem, PutTag}

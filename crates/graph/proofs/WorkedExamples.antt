@@ -1,4 +1,4 @@
--- The worked examples: a canonical text; and a tag and the end of the instance that it prescribes, which fit in this order alone.
+-- The worked examples: a canonical text; a tag and the end of its instance, which fit in this order alone.
 use Rattle.std.proofs.Common.{◌≡◌, codes, refl, ◌∙◌, lit<, List, [], ◌∷◌, ◌++◌}
 use Rattle.std.specs.Fmt.{decimal}
 use Rattle.std.proofs.lemmas.Fmt.{decimal-digits_of}

@@ -8,6 +8,6 @@ loop-number-preserved c =
     elim c.match-value.branch [
       | in-Some+in_ok-add_step w ↦
           rw (w.lists-is, w.in_ok-add_step.ensures)
-          (value_prescribed c.args.steps.now c.loop-number.number c.args.tags w.in-Some.step.now _ (omega arith) (rw w.in-Some.is at c.value.ensures) c.requires.prescribed c.loop-number.invariant)
+          (value_prescribed c.args.steps.now c.loop-number.number c.args.tags _ _ (omega arith) (rw w.in-Some.is at c.value.ensures) c.requires.prescribed c.loop-number.invariant)
       | in_default w ↦ absurd (no_value c.args.steps.now c.loop-number.number (omega arith) (rw w.in_default.is at c.value.ensures))
     ]
