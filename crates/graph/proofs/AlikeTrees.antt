@@ -1,5 +1,5 @@
 -- Trees of one derivation differ only in where their parts are in memory: all of them that are graphs are one graph.
-use Rattle.std.proofs.Common.{◌≡◌, List, [], ◌∷◌, sym, ◌∙◌, ℕ, Some, refl, ap, ◌++◌, map, arith}
+use Rattle.std.proofs.Common.{◌≡◌, List, [], ◌∷◌, sym, ◌∙◌, ℕ, Some, refl, ap, ◌++◌, map, arith, subst}
 use Rattle.std.specs.Prelude.{⊤}
 use Rattle.steptree.specs.declared.step.Name.{Name}
 use Rattle.steptree.specs.Tree as tree
@@ -18,6 +18,10 @@ use Rattle.graph.specs.Graph.{Step, Graph}
 use Rattle.graph.specs.Tree.{text_of, is_environment_item_put, is_environment_tag_put, is_environment_get, prescriber_of, sheet_in, IsStepOf, IsGraphOf}
 use Rattle.graph.proofs.Lists.{as_many, in_common}
 use Rattle.graph.proofs.Bare.{SharesNames, shared, sheet_same, prescriber_same, each_same}
+use Rattle.syntax.specs.Reading.{IsRead}
+use Rattle.syntax.specs.Tokens.{Spot, TokensOnce}
+use Rattle.syntax.specs.Spelled.{Derives}
+use Rattle.syntax.specs.Unambiguous.{OneDerivation}
 
 abbrev pub SameName : Name → Name → Type 0
 SameName one two = one.text.now ≡ two.text.now
@@ -221,3 +225,8 @@ graph_same graph t u g h a b c d =
       environment_tag_puts = (c.environment_tag_puts ∙ tag_puts ∙ sym d.environment_tag_puts) i;
       environment_gets = (c.environment_gets ∙ gets ∙ sym d.environment_gets) i;
     }
+
+-- all readings of one text have one derivation
+pub one_reading : TokensOnce → OneDerivation → (text : List ℕ) (t u : Tree) (one : IsRead text t) (two : IsRead text u) → two.graph ≡ one.graph
+one_reading once derived text t u one two =
+    derived one.spots two.graph one.graph (subst (λ (them : List Spot). Derives two.graph them) (once text two.spots one.spots two.tokens one.tokens) two.derives) one.derives

@@ -115,9 +115,6 @@ pub record SharesNames (t u : Tree) : Type 0 where
   pub tags : tags_of t.declarations.items ≡ tags_of u.declarations.items
   pub relations : map bare_relation t.relations.items ≡ map bare_relation u.relations.items
 
-one_bare : (it : Named) (one two : Name) → IsName it one → IsName it two → bare one ≡ bare two
-one_bare it one two a b = sym (name_bare it one a) ∙ name_bare it two b
-
 pub names_bare : (texts : List Named) (ones twos : List Name) → AreAll IsName texts ones → AreAll IsName texts twos → map bare ones ≡ map bare twos
 names_bare texts ones twos a b = sym (in_common IsName name_of bare name_bare texts ones a) ∙ in_common IsName name_of bare name_bare texts twos b
 
@@ -165,7 +162,7 @@ module _ (t u : Tree) (same : SharesNames t u) where
       → step_faults tags t.relations.items before ones ≡ step_faults tags u.relations.items also twos
   steps_same tags before also same_before [] [] [] a b = refl
   steps_same tags before also same_before (text ∷ texts) (one ∷ ones) (two ∷ twos) a b =
-      let name = one_bare text.name one.name two.name a.0.name b.0.name in
+      let name = sym (name_bare text.name one.name a.0.name) ∙ name_bare text.name two.name b.0.name in
       let parameters = names_bare (all_names text.parameters) one.parameters.items two.parameters.items a.0.parameters b.0.parameters in
       let variables = names_bare (all_names text.variables) one.variables.items two.variables.items a.0.variables b.0.variables in
       let many : length one.parameters.items ≡ length two.parameters.items = sym (length-map one.parameters.items bare) ∙ ap length parameters ∙ length-map two.parameters.items bare in

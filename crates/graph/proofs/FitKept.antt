@@ -61,15 +61,10 @@ stated_is_of g X event (item address value (By instance number)) it = it.0
 stated_is_of g X event (done instance) it = it.0
 stated_is_of g X event (bad instance kind) it = it.0.of_graph
 
-given_is_stated : (g : Graph) (event : Event) (fact : Fact) → IsGiven g event fact → among (event_facts event) fact ≡ true
-given_is_stated g event (tag name) it = it.1
-given_is_stated g event (item address value Env) it = it
-given_is_stated _ _ _ it = absurd (assumption)
-
-given_is_of_environment : (g : Graph) (event : Event) (fact : Fact) → IsGiven g event fact → IsOfEnvironment fact
-given_is_of_environment g event (tag name) it = tt
-given_is_of_environment g event (item address value Env) it = tt
-given_is_of_environment _ _ _ it = absurd (assumption)
+given_is : (g : Graph) (event : Event) (fact : Fact) → IsGiven g event fact → (among (event_facts event) fact ≡ true) × IsOfEnvironment fact
+given_is g event (tag name) it = (it.1, tt)
+given_is g event (item address value Env) it = (it, tt)
+given_is _ _ _ it = absurd (assumption)
 
 prescribed_within : (g : Graph) (X Y : Facts) → Within X Y → (instance : Inst) → IsPrescribed g X instance → IsPrescribed g Y instance
 prescribed_within g X Y within instance it = (it.0, within (tag it.0) it.1, it.2)
@@ -92,12 +87,6 @@ module _ (told : OneFact) (g : Graph) (X : Facts) where
   each_given (EnvTag name) fits = ((fits.event_fits.0, the_first told (tag name) []), tt)
   each_given (Done instance puts) fits = tt
   each_given (Stopped instance kind) fits = tt
-
-  stated : (event : Event) → Fits g X event → (fact : Fact) → among (event_facts event) fact ≡ true → IsStated g X event fact
-  stated event fits = each_among told (IsStated g X event) (event_facts event) (each_stated event fits)
-
-  given_by : (event : Event) → Fits g X event → (fact : Fact) → among (environment_facts event) fact ≡ true → IsGiven g event fact
-  given_by event fits = each_among told (IsGiven g event) (environment_facts event) (each_given event fits)
 
 one_stop : (event : Event) (i j : Inst) (k l : FaultKind) → event ≡ Stopped i k → event ≡ Stopped j l → (i ≡ j) × (k ≡ l)
 one_stop event i j k l one two = (cc, cc)
@@ -123,15 +112,15 @@ module _ (told : OneFact) (g : Graph) (E X : Facts) (event : Event) (state : Fit
   not_before instance kind there = absurd (false≢true (sym (fits.working instance kind) ∙ there))
 
   by_event : {A : Type 0} (fact : Fact) → (X fact ≡ true → A) → (IsStated g X event fact → A) → Y fact ≡ true → A
-  by_event fact first second = by_each X (event_facts event) fact first (λ it. second (stated told g X event fits fact it))
+  by_event fact first second = by_each X (event_facts event) fact first (λ it. second (each_among told (IsStated g X event) (event_facts event) (each_stated told g X event fits) fact it))
 
   by_given : {A : Type 0} (fact : Fact) → (E fact ≡ true → A) → (IsGiven g event fact → A) → with_facts E (environment_facts event) fact ≡ true → A
-  by_given fact first second = by_each E (environment_facts event) fact first (λ it. second (given_by told g X event fits fact it))
+  by_given fact first second = by_each E (environment_facts event) fact first (λ it. second (each_among told (IsGiven g event) (environment_facts event) (each_given told g X event fits) fact it))
 
   pub state_keeps : FitsState g (with_facts E (environment_facts event)) Y
   state_keeps = record {
-    part = λ fact. by_given fact (λ it. old fact (state.part fact it)) (λ it. new fact (given_is_stated g event fact it));
-    of_environment = λ fact. by_given fact (state.of_environment fact) (given_is_of_environment g event fact);
+    part = λ fact. by_given fact (λ it. old fact (state.part fact it)) (λ it. new fact ((given_is g event fact it).0));
+    of_environment = λ fact. by_given fact (state.of_environment fact) (λ it. (given_is g event fact it).1);
     items = λ address value. by_event (item address value Env)
         (λ it. or_left (E (item address value Env)) (among (environment_facts event) (item address value Env)) (state.items address value it))
         (λ it. or_right (E (item address value Env)) (among (environment_facts event) (item address value Env)) it.1);

@@ -105,11 +105,6 @@ tree_cause text tree kind place plain read fault =
     named_cause text kind place (first_named (tree_faults tree ++ map body_fault bodies) kind place (both _ _ (tree_named tree) (bodies_named bodies)) fault) plain
     (record { tree = tree; read = read; first = fault })
 
-pub tree_causes : (text : List ℕ) (tree : Tree) (fault : PlacedFault) → IsPlain text → IsRead text tree → (fault ≡ no_memory) ⊎ IsTreeFault tree fault.error fault.position
-    → (fault ≡ no_memory) ⊎ IsCause text fault.error fault.position
-tree_causes text tree fault plain read (inl refused) = inl refused
-tree_causes text tree fault plain read (inr first) = inr (tree_cause text tree fault.error fault.position plain read first)
-
 module _ (text : List ℕ) (tree : Tree) (plain : IsPlain text) (read : IsRead text tree) where
   -- the text reads as the graph
   pub read_text : {V : Type 0} (Spelled : Graph × V → Type 0) (result : Result (Graph × V) PlacedFault) → IfOk result (λ both. (tree_faults tree ≡ []) × IsGraphOf tree both.0)
@@ -117,15 +112,12 @@ module _ (text : List ℕ) (tree : Tree) (plain : IsPlain text) (read : IsRead t
   read_text Spelled (Ok both) graph short = record { short = plain.0; ascii = plain.1; tree = tree; read = read; no_fault = graph.0; graph = graph.1; canonical = short.1 }
   read_text Spelled (Err fault) graph short = tt
 
-  -- its fault
-  its_fault : (fault : PlacedFault) → (fault ≡ no_memory) ⊎ (IsTreeFault tree fault.error fault.position ⊎ ((fault ≡ too_large) × IsLong tree)) → (fault ≡ no_memory) ⊎ IsCause text fault.error fault.position
-  its_fault fault (inl memory) = inl memory
-  its_fault fault (inr (inl first)) = tree_causes text tree fault plain read (inr first)
-  its_fault fault (inr (inr long)) =
-      inr (subst (λ (it : PlacedFault). IsCause text it.error it.position) (sym long.0)
-      (inl (refl, inr (plain, record { tree = tree; read = read; no_fault = long.1.no_fault; g = long.1.g; graph = long.1.graph; long = long.1.long }))))
-
+  -- its faults
   pub its_faults : {X : Type 0} (result : Result X PlacedFault) → IfErr result (λ fault. (fault ≡ no_memory) ⊎ IsTreeFault tree fault.error fault.position ⊎ ((fault ≡ too_large) × IsLong tree))
       → IfErr result (λ fault. (fault ≡ no_memory) ⊎ IsCause text fault.error fault.position)
   its_faults (Ok value) cause = tt
-  its_faults (Err fault) cause = its_fault fault cause
+  its_faults (Err fault) (inl memory) = inl memory
+  its_faults (Err fault) (inr (inl first)) = inr (tree_cause text tree fault.error fault.position plain read first)
+  its_faults (Err fault) (inr (inr long)) =
+      inr (subst (λ (it : PlacedFault). IsCause text it.error it.position) (sym long.0)
+      (inl (refl, inr (plain, record { tree = tree; read = read; no_fault = long.1.no_fault; g = long.1.g; graph = long.1.graph; long = long.1.long }))))

@@ -127,7 +127,8 @@ module _ (g : Graph) (is : IsTextual g) where
     pub facts : AllByRecursion (Facts g (map tree_relation relations)) g.steps
     facts = all_indexed (Facts g (map tree_relation relations)) g.steps (λ index step there.
         let of : IsOfGraph g step = is.graph.steps index step there in record {
-          reads = step_marks_told g relations shaped (λ step item. is_read item step) (λ name text d. grind arith) g.items (λ (it : Step). it.reads) (λ name text. simp in_lists) index step there steps_apart items_apart of.each_read;
+          reads = step_marks_told g relations shaped (λ step item. is_read item step) (λ name text d. grind arith) g.items (λ (it : Step). it.reads) (λ name text. simp in_lists) index step there steps_apart
+              items_apart of.each_read;
           item_puts = step_marks_told g relations shaped is_item_put (λ name text d. grind arith) g.items (λ (it : Step). it.item_puts) (λ name text. simp in_lists) index step there steps_apart items_apart of.each_item_put;
           tag_puts = step_marks_told g relations shaped is_tag_put (λ name text d. grind arith) g.tags (λ (it : Step). it.tag_puts) (λ name text. simp in_lists) index step there steps_apart tags_apart of.each_tag_put;
           prescriber = prescribed g relations shaped index step there steps_apart;

@@ -1,5 +1,5 @@
 -- A text that reads as a graph has no fault but `NoMemory`.
-use Rattle.std.proofs.Common.{◌≡◌, ℕ, suc, Bool, true, not, List, [], ◌∷◌, ◌++◌, length, Option, Some, refl, sym, ap, ◌∙◌, ◌<◌, inl, inr, map, slice_get, subst, arith}
+use Rattle.std.proofs.Common.{◌≡◌, ℕ, suc, Bool, true, not, List, [], ◌∷◌, ◌++◌, length, Option, Some, refl, sym, ap, ◌∙◌, ◌<◌, inl, inr, map, slice_get, arith}
 use Rattle.std.specs.Prelude.{option_map, is_none}
 use Rattle.std.proofs.lemmas.Bool.{eq-eqb}
 use Rattle.steptree.specs.declared.checker.CheckError.{CheckError}
@@ -13,14 +13,13 @@ use Rattle.steptree.specs.Resolved.{IsExpression, AreExpressions, IsKey, IsBlock
 use Rattle.steptree.specs.Sheet.{IsAllowed, KeepsTo}
 use Rattle.steptree.specs.Nameable.{Collection, Nameable}
 use Rattle.syntax.specs.Tree.{AreAll, IsStep, IsTree, IsGet, IsPut}
-use Rattle.graph.proofs.AlikeTrees.{SameName, Alike, AlikeKey, AlikeBlock, names_are, statements_alike, get_alike, put_alike}
+use Rattle.graph.proofs.AlikeTrees.{SameName, Alike, AlikeKey, AlikeBlock, names_are, statements_alike, get_alike, put_alike, one_reading}
 use Rattle.steptree.specs.declared.step.Step.{Step as NamedStep}
 use Rattle.syntax.specs.declared.fault.TreeError.TheVariants as syntax_error
 use Rattle.syntax.specs.declared.tree.Tree.{Tree}
 use Rattle.syntax.specs.Grammar.{StepText, GraphText}
 use Rattle.syntax.specs.Reading.{IsRead, ReadWithoutFault}
-use Rattle.syntax.specs.Spelled.{Derives}
-use Rattle.syntax.specs.Tokens.{Spot, TokensOnce}
+use Rattle.syntax.specs.Tokens.{TokensOnce}
 use Rattle.syntax.specs.Unambiguous.{OneDerivation}
 use Rattle.graph.specs.declared.fault.GraphError.{GraphError}
 use Rattle.graph.specs.declared.fault.GraphFault.{GraphFault}
@@ -133,10 +132,7 @@ module _ (once : TokensOnce) (derived : OneDerivation) (no_syntax : ReadWithoutF
 
   not_first : (kind : GraphError) (position : ℕ) → IsFirstFault text kind position → ⊥
   not_first kind position fault =
-      let spots : fault.read.spots ≡ read.spots = once text fault.read.spots read.spots fault.read.tokens read.tokens in
-      let derives : Derives fault.read.graph read.spots = subst (λ (them : List Spot). Derives fault.read.graph them) spots fault.read.derives in
-      let same : fault.read.graph ≡ read.graph = derived read.spots fault.read.graph read.graph derives read.derives in
-      tree_clear read.graph reads.tree fault.tree g kind position read.is (subst (λ (graph : GraphText). IsTree graph fault.tree) same fault.read.is) reads.graph reads.no_fault fault.first
+      tree_clear read.graph reads.tree fault.tree g kind position read.is (rw (one_reading once derived text reads.tree fault.tree read fault.read) at fault.read.is) reads.graph reads.no_fault fault.first
 
   no_cause : (kind : GraphError) (position : ℕ) → IsCause text kind position → ⊥
   no_cause error.NotAscii position cause = (let small : cause.byte < 128 = each_found (λ byte. byte < 128) text position cause.byte cause.there reads.ascii in let large = cause.large in omega (arith, small, large))
