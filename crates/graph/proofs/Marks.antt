@@ -19,7 +19,7 @@ use Rattle.std.proofs.lemmas.Grind.{get_or-set_at, common_steps}
 use Rattle.steptree.specs.declared.step.Name.{Name}
 use Rattle.terms.specs.declared.name.TagCollection.{TagCollection}
 use Rattle.syntax.specs.declared.tree.Relation.TheVariants as related
-use Rattle.graph.specs.Tree.{text_of, is_name, prescriber_of}
+use Rattle.graph.specs.Tree.{text_of, prescriber_of}
 
 -- ---- places
 
@@ -143,14 +143,9 @@ abbrev pub either : Option Text → Option Text → Option Text
 either None other = other
 either (Some tag) other = Some tag
 
-either_if : (b : Bool) (tag : Text) (one two : Option Text) → (if b then Some tag else either one two) ≡ either (if b then Some tag else one) two
-either_if b tag one two = grind arith
-
 prescriber_of_both : (before more : List Relation) (step : Text) → prescriber_of (before ++ more) step ≡ either (prescriber_of before step) (prescriber_of more step)
 prescriber_of_both [] more step = refl
-prescriber_of_both (related.Prescribes one two ∷ before) more step =
-    ap (λ (o : Option Text). if is_name two step then Some (text_of one) else o) (prescriber_of_both before more step)
-    ∙ either_if (is_name two step) (text_of one) (prescriber_of before step) (prescriber_of more step)
+prescriber_of_both (related.Prescribes one two ∷ before) more step = grind (arith, prescriber_of_both before more step)
 prescriber_of_both (_ ∷ before) more step = prescriber_of_both before more step
 
 either_none : (tag : Option Text) → either tag None ≡ tag

@@ -6,7 +6,7 @@ use Rattle.std.specs.List.{AllByRecursion, Contains}
 use Rattle.std.specs.declared.alloc.Global.{Global}
 use Rattle.std.proofs.Math.ListN.{set}
 use Rattle.std.proofs.lemmas.Grind.{common_steps}
-use Rattle.std.proofs.lemmas.List.{map-set, map-append, take_more, length-map, length-take-le, length-set, append-nil}
+use Rattle.std.proofs.lemmas.List.{map-set, map-append, length-map, length-take-le, length-set, append-nil}
 use Rattle.std.proofs.lemmas.Option.{get_or_from_slice_get}
 use Rattle.terms.specs.declared.name.StepCollection.{StepCollection}
 use Rattle.steptree.specs.Names.{Text}
@@ -15,7 +15,7 @@ use Rattle.graph.specs.Graph.{Step, IsStep, Prescribes}
 use Rattle.graph.specs.Seen.{step_seen}
 use Rattle.graph.specs.Prescribed.{prescribed_from, numbers_of, ArePrescriptions, prescribed_by, PrescribesListed}
 use Rattle.graph.proofs.Marks.{stood}
-use Rattle.graph.proofs.Lists.{each_found}
+use Rattle.graph.proofs.Lists.{each_found, taken}
 use Rattle.std.proofs.lemmas.Bool.{eqb-true, eq-eqb}
 use Rattle.std.proofs.lemmas.List.Elements.{Contains-append_left, Contains-append_right, Contains-append_cases, Contains-push, Contains-push_cases}
 
@@ -41,35 +41,28 @@ next_prescription steps step tags lists within are = record {
   each = λ tag below. grind (arith, nat_tests, common_steps, one_more steps step 0 tag, are.each tag below, append-nil (prescribed_from 0 steps tag), are.long);
 }
 
--- the prescriptions after a step of the list is added in its place
-pub step_prescribed : (steps : List (Text × Prescribed)) (number tags : ℕ) (entry : Text × Prescribed) (lists : List (List ℕ)) → number < length steps → slice_get steps number ≡ Some entry
-    → AllByRecursion (λ entry. entry.1.prescriber.0 < tags) steps
-    → ArePrescriptions (map step_seen (take number steps)) tags lists
-    → ArePrescriptions (map step_seen (take (number + 1) steps)) tags (set lists entry.1.prescriber.0 (get_or lists entry.1.prescriber.0 [] ++ number ∷ []))
-step_prescribed steps number tags entry lists within there all are =
-    let count : length (map step_seen (take number steps)) ≡ number = length-map (take number steps) step_seen ∙ length-take-le number steps (omega (arith, within)) in
-    let more : map step_seen (take (number + 1) steps) ≡ map step_seen (take number steps) ++ step_seen entry ∷ [] =
-    ap (map step_seen) (take_more steps number entry within ∙ ap (λ (e : Text × Prescribed). take number steps ++ e ∷ []) (get_or_from_slice_get steps number entry entry there))
-    ∙ map-append step_seen (take number steps) (entry ∷ []) in
-    subst (λ (l : List Step). ArePrescriptions l tags (set lists entry.1.prescriber.0 (get_or lists entry.1.prescriber.0 [] ++ number ∷ []))) (sym more)
-    (subst (λ (n : ℕ). ArePrescriptions (map step_seen (take number steps) ++ step_seen entry ∷ []) tags (set lists entry.1.prescriber.0 (get_or lists entry.1.prescriber.0 [] ++ n ∷ []))) count
-    (next_prescription (map step_seen (take number steps)) (step_seen entry) tags lists (each_found (λ entry. entry.1.prescriber.0 < tags) steps number entry there all) are))
-
 there_is : {X : Type 0} (xs : List X) (number : ℕ) → number < length xs → (x : X) × (slice_get xs number ≡ Some x)
 there_is [] number within = absurd (omega arith)
 there_is (x ∷ xs) zero within = (x, refl)
 there_is (x ∷ xs) (suc number) within = there_is xs number (omega arith)
 
+-- the prescriptions after a step of the list is added in its place
 pub value_prescribed : (steps : List (Text × Prescribed)) (number tags : ℕ) (value : Prescribed) (lists : List (List ℕ)) → number < length steps
     → Some value ≡ option_map (λ entry. entry.1) (slice_get steps number)
     → AllByRecursion (λ entry. entry.1.prescriber.0 < tags) steps → ArePrescriptions (map step_seen (take number steps)) tags lists
     → ArePrescriptions (map step_seen (take (number + 1) steps)) tags (set lists value.prescriber.0 (get_or lists value.prescriber.0 [] ++ number ∷ []))
 value_prescribed steps number tags value lists within is all are =
     let it = there_is steps number within in
-    let both : Some value ≡ Some it.0.1 = is ∙ ap (option_map (λ (entry : Text × Prescribed). entry.1)) it.1 in
-    let same : it.0.1 ≡ value = cc in
-    subst (λ (v : Prescribed). ArePrescriptions (map step_seen (take (number + 1) steps)) tags (set lists v.prescriber.0 (get_or lists v.prescriber.0 [] ++ number ∷ []))) same
-    (step_prescribed steps number tags it.0 lists within it.1 all are)
+    let entry : Text × Prescribed = it.0 in
+    let both : Some value ≡ Some entry.1 = is ∙ ap (option_map (λ (entry : Text × Prescribed). entry.1)) it.1 in
+    let same : entry.1 ≡ value = cc in
+    let count : length (map step_seen (take number steps)) ≡ number = length-map (take number steps) step_seen ∙ length-take-le number steps (omega (arith, within)) in
+    let more : map step_seen (take (number + 1) steps) ≡ map step_seen (take number steps) ++ step_seen entry ∷ [] =
+    ap (map step_seen) (taken steps number entry within (sym (get_or_from_slice_get steps number entry entry it.1))) ∙ map-append step_seen (take number steps) (entry ∷ []) in
+    rw more
+    (subst (λ (v : Prescribed). ArePrescriptions (map step_seen (take number steps) ++ step_seen entry ∷ []) tags (set lists v.prescriber.0 (get_or lists v.prescriber.0 [] ++ number ∷ []))) same
+    (subst (λ (n : ℕ). ArePrescriptions (map step_seen (take number steps) ++ step_seen entry ∷ []) tags (set lists entry.1.prescriber.0 (get_or lists entry.1.prescriber.0 [] ++ n ∷ []))) count
+    (next_prescription (map step_seen (take number steps)) (step_seen entry) tags lists (each_found (λ entry. entry.1.prescriber.0 < tags) steps number entry it.1 all) are)))
 
 pub no_value : (steps : List (Text × Prescribed)) (number : ℕ) → number < length steps → None ≡ option_map (λ entry. entry.1) (slice_get steps number) → ⊥
 no_value steps number within is =

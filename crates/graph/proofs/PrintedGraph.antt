@@ -37,10 +37,6 @@ use Rattle.graph.specs.Tree.{items_of, tags_of, step_names, is_read, is_item_put
 use Rattle.graph.proofs.PrintedExpressions.{AllPrinted, all_printed, no_all}
 use Rattle.graph.proofs.PrintedValues.{vec_of}
 
-each_two : {X : Type 0} (P Q : X → Type 0) (xs : List X) → AllByRecursion P xs → AllByRecursion Q xs → AllByRecursion (λ x. P x × Q x) xs
-each_two P Q [] one two = tt
-each_two P Q (x ∷ xs) one two = ((one.0, two.0), each_two P Q xs one.1 two.1)
-
 pub declarable : (collections : List Collection) → All (λ collection. collection.components ≤ MAX_COMPONENTS) collections → AllByRecursion IsGraphName (names_in collections)
     → AllByRecursion Declarable collections
 declarable [] few good = tt
@@ -108,11 +104,8 @@ module _ (g : Graph) (is : IsTextual g) where
   pub steps_apart : Apart is_text (names_of_steps g.steps)
   steps_apart = apart (names_of_steps g.steps) is.step_names.distinct
 
-  of_graph : AllByRecursion (IsOfGraph g) g.steps
-  of_graph = all_indexed (IsOfGraph g) g.steps is.graph.steps
-
   pub good_steps : AllByRecursion (IsGood g) g.steps
-  good_steps = each_weaker (λ step. IsOfGraph g step × IsTextStep step) (IsGood g) (λ step h. record { of_graph = h.0; textual = h.1 }) g.steps (each_two (IsOfGraph g) IsTextStep g.steps of_graph is.steps)
+  good_steps = all_indexed (IsGood g) g.steps (λ index step there. record { of_graph = is.graph.steps index step there; textual = each_found IsTextStep g.steps index step there is.steps })
 
   pub good_shapes : AllByRecursion HasGoodNames (shapes g)
   good_shapes = shapes_named IsGraphName IsGraphName IsGraphName g is.graph is.items.each is.tags.each is.step_names.each
@@ -226,7 +219,7 @@ canonical_reads g is short =
       ));
       relations = vec_of (map tree_relation relations)
           (omega (arith, length-map relations tree_relation, as_many Shaped (shapes g) relations it.relations.related, shapes_count g is.graph.items.few few_tags is.graph.few));
-      steps = vec_of trees.values (omega (arith, trees.many, is.graph.few));
+      steps = vec_of trees.values (omega (arith, as_many (Shown g) trees.values g.steps trees.shown, is.graph.few));
     } in
     let items : items_of (map tree_declaration (one ++ two)) ≡ g.items =
     items_back g.items one two it.items.related ∙ ap (λ (l : List Collection). g.items ++ l) (no_items g.tags two it.tags.related) ∙ append-nil g.items in

@@ -159,14 +159,13 @@ pub record StepTrees (g : Graph) (steps : List Step) (texts : List StepText) : T
   pub values : List NamedStep
   pub are : AreAll IsStep texts values
   pub shown : AreAll (Shown g) values steps
-  pub many : length values ≡ length steps
 
 pub step_trees : (g : Graph) (steps : List Step) (texts : List StepText) → AreAll (DerivedStep g) steps texts → StepTrees g steps texts
-step_trees g [] [] all = record { values = []; are = tt; shown = tt; many = refl }
+step_trees g [] [] all = record { values = []; are = tt; shown = tt }
 step_trees g (step ∷ steps) (text ∷ texts) all =
     let one = all.0 in
     let rest = step_trees g steps texts all.1 in
-    record { values = one.value ∷ rest.values; are = (one.is, rest.are); shown = (one.shown, rest.shown); many = omega (arith, rest.many) }
+    record { values = one.value ∷ rest.values; are = (one.is, rest.are); shown = (one.shown, rest.shown) }
 step_trees _ _ _ all = absurd (assumption)
 
 pub names_shown : (g : Graph) (values : List NamedStep) (steps : List Step) → AreAll (Shown g) values steps → step_names values ≡ names_of_steps steps

@@ -5,9 +5,9 @@ use Rattle.std.specs.Str.{bytes_eq, IsAscii}
 use Rattle.std.specs.Cmp.Lexicographic.{nat_list_eq_equiv}
 use Rattle.std.proofs.lemmas.Slice.Eq.{bytes_eq-Decides}
 use Rattle.steptree.specs.Names.{Text, is_text, place_of}
-use Rattle.std.specs.List.{position_from, IsDistinct, AllByRecursion}
+use Rattle.std.specs.List.{position_from, IsDistinct}
 use Rattle.std.proofs.lemmas.Iterator.Adapters.{position_from-zero}
-use Rattle.graph.proofs.Lists.{each_found}
+use Rattle.graph.proofs.Lists.{each_found, each_mapped}
 use Rattle.std.specs.Map.{keys_of, lookup}
 use Rattle.graph.specs.Numbered.{names_numbered, found}
 
@@ -51,14 +51,10 @@ own_place (name ∷ names) (suc number) text distinct there =
     grind (arith, texts_are_bytes name text, each_found (λ y. bytes_eq name y ≡ false) names number text there distinct.0, own_place names number text distinct.1 there)
 
 module _ {K : Type 0} (text : K → Text) where
-  all_names : (key : K) (keys : List K) → AllByRecursion (λ other. bytes_eq (text key) (text other) ≡ false) keys → AllByRecursion (λ other. bytes_eq (text key) other ≡ false) (map text keys)
-  all_names key [] all = tt
-  all_names key (other ∷ keys) all = (all.0, all_names key keys all.1)
-
   pub distinct_names : (keys : List K) → IsDistinct (λ one two. bytes_eq (text one) (text two)) keys → IsDistinct bytes_eq (map text keys)
   unfolding IsDistinct
   distinct_names [] distinct = tt
-  distinct_names (key ∷ keys) distinct = (all_names key keys distinct.0, distinct_names keys distinct.1)
+  distinct_names (key ∷ keys) distinct = (each_mapped (λ other. bytes_eq (text key) other ≡ false) text keys distinct.0, distinct_names keys distinct.1)
 
 module _ {K V : Type 0} (text : K → Text) where
   abbrev pub seen : List (K × V) → List (Text × V)

@@ -27,7 +27,7 @@ use Rattle.graph.specs.declared.fault.GraphError.TheVariants as error
 use Rattle.graph.specs.Canonical.{canonical}
 use Rattle.graph.specs.Faults.{tree_faults, body_fault}
 use Rattle.graph.specs.Graph.{Step, Graph}
-use Rattle.graph.specs.Reads.{Reads, body_faults, IsTreeFault, IsFirstFault, IsCause, HasCause, no_memory}
+use Rattle.graph.specs.Reads.{Reads, body_faults, IsTreeFault, IsCause, HasCause, no_memory}
 use Rattle.graph.specs.Textual.{OneGraph}
 use Rattle.graph.specs.Tree.{sheet_in, IsStepOf, IsGraphOf}
 use Rattle.graph.proofs.Bare.{SharesNames, shared, sheet_same, faults_same}
@@ -130,10 +130,6 @@ module _ (once : TokensOnce) (derived : OneDerivation) (no_syntax : ReadWithoutF
   abbrev read : IsRead text reads.tree
   read = reads.read
 
-  not_first : (kind : GraphError) (position : ℕ) → IsFirstFault text kind position → ⊥
-  not_first kind position fault =
-      tree_clear read.graph reads.tree fault.tree g kind position read.is (rw (one_reading once derived text reads.tree fault.tree read fault.read) at fault.read.is) reads.graph reads.no_fault fault.first
-
   no_cause : (kind : GraphError) (position : ℕ) → IsCause text kind position → ⊥
   no_cause error.NotAscii position cause = (let small : cause.byte < 128 = each_found (λ byte. byte < 128) text position cause.byte cause.there reads.ascii in let large = cause.large in omega (arith, small, large))
   no_cause error.Syntax position cause =
@@ -150,7 +146,9 @@ module _ (once : TokensOnce) (derived : OneDerivation) (no_syntax : ReadWithoutF
       let none : syntax_error.TooLarge ≡ syntax_error.NoMemory = no_syntax text reads.tree (record { error = syntax_error.TooLarge; place = position }) read cause.1 in
       cc
   no_cause error.NoMemory position cause = cause
-  no_cause kind position cause = not_first kind position cause.1
+  no_cause kind position cause =
+      let first = cause.1 in
+      tree_clear read.graph reads.tree first.tree g kind position read.is (rw (one_reading once derived text reads.tree first.tree read first.read) at first.read.is) reads.graph reads.no_fault first.first
 
   pub no_fault : (fault : GraphFault) → HasCause text fault → fault ≡ no_memory
   no_fault fault (inl same) = same
