@@ -1,7 +1,6 @@
 -- Names of steps and in steps, and the steps, one after another.
 use Rattle.std.proofs.Common.{◌≡◌, ◌<◌, ℕ, true, List, [], ◌∷◌, ◌++◌, length, get_or, take, drop, Some, None, Option, if◌then◌else◌, refl, sym, ap, subst, ◌∙◌, ◌+◌, arith, append_assoc, is_some, zero}
 use Rattle.std.proofs.Common.{suc, Bool, false, not, slice_get}
-use Rattle.std.proofs.Math.Seq.{take-length}
 use Rattle.std.proofs.lemmas.List.{take_more, map-append, length-map, length-take-le, append-nil, take-append-drop, drop_all, get_or_default}
 use Rattle.steptree.specs.declared.step.Name.{Name}
 use Rattle.steptree.specs.declared.step.Step.{Step as NamedStep}
@@ -48,7 +47,7 @@ module _ (parameters variables : List Name) where
 
 module _ (before : List Text) (more : List Name) where
   pub record AddedSoFar (index : ℕ) (names : List Text) : Type 0 where
-    pub added : names ≡ before ++ texts (take index more)
+    pub added : names ++ texts (drop index more) ≡ before ++ texts more
     pub left : repeated before more ≡ repeated names (drop index more)
 
   module _ (index : ℕ) (names : List Text) (this : Name) (within : index < length more) (is : this ≡ get_or more index this) (so : AddedSoFar index names) where
@@ -57,9 +56,8 @@ module _ (before : List Text) (more : List Name) where
 
     pub one_added : (new : List Text) → fault_if (has names this) Redeclared this.place ≡ [] → new ≡ names ++ text_of this ∷ [] → AddedSoFar (index + 1) new
     one_added new none now = record {
-      added = now ∙ ap (λ (l : List Text). l ++ text_of this ∷ []) so.added ∙ append_assoc before (texts (take index more)) (text_of this ∷ [])
-          ∙ ap (λ (l : List Text). before ++ l) (sym (map-append (λ name. name.text.now) (take index more) (this ∷ [])))
-          ∙ ap (λ (l : List Name). before ++ texts l) (sym (take_more more index this within ∙ ap (λ (n : Name). take index more ++ n ∷ []) (sym is)));
+      added = ap (λ (l : List Text). l ++ texts (drop (index + 1) more)) now ∙ append_assoc names (text_of this ∷ []) (texts (drop (index + 1) more))
+          ∙ ap (λ (l : List Name). names ++ texts l) (sym (opened more index this within is)) ∙ so.added;
       left = repeated_here ∙ empty_in_front (fault_if (has names this) Redeclared this.place) _ none ∙ ap (λ (l : List Text). repeated l (drop (index + 1) more)) (sym now);
     }
 
@@ -68,7 +66,8 @@ module _ (before : List Text) (more : List Name) where
 
   pub all_added : (index : ℕ) (names : List Text) → index ≡ length more → AddedSoFar index names → (repeated before more ≡ []) × (names ≡ before ++ texts more)
   all_added index names end so =
-      (so.left ∙ ap (repeated names) (drop_all index more (omega (arith, end))), so.added ∙ ap (λ (l : List Name). before ++ texts l) (ap (λ (n : ℕ). take n more) end ∙ take-length more))
+      let rest : drop index more ≡ [] = drop_all index more (omega (arith, end)) in
+      (so.left ∙ ap (repeated names) rest, sym (append-nil names) ∙ ap (λ (l : List Name). names ++ texts l) (sym rest) ∙ so.added)
 
 -- ---- names of steps
 

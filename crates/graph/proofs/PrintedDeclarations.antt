@@ -193,27 +193,17 @@ AreTags collections declarations = AreAll (Declares tag_declared) collections de
 
 -- ---- which collections they are
 
-pub items_back : (collections : List Collection) (declarations behind : List Declaration) → AreItems collections declarations
-    → items_of (map tree_declaration (declarations ++ behind)) ≡ collections ++ items_of (map tree_declaration behind)
-items_back [] [] behind all = refl
-items_back (c ∷ cs) (d ∷ ds) behind all = simp (all.0.is, all.0.many, items_back cs ds behind all.1)
-items_back _ _ _ all = absurd (assumption)
+only_tags : (collections : List Collection) (declarations : List Declaration) → AreTags collections declarations
+    → (items_of (map tree_declaration declarations) ≡ []) × (tags_of (map tree_declaration declarations) ≡ collections)
+only_tags [] [] all = (refl, refl)
+only_tags (c ∷ cs) (d ∷ ds) all = let rest = only_tags cs ds all.1 in (simp (all.0.is, rest.0), simp (all.0.is, all.0.many, rest.1))
+only_tags _ _ all = absurd (assumption)
 
-pub no_items : (collections : List Collection) (declarations : List Declaration) → AreTags collections declarations → items_of (map tree_declaration declarations) ≡ []
-no_items [] [] all = refl
-no_items (c ∷ cs) (d ∷ ds) all = ap (λ (it : Declaration). items_of (tree_declaration it ∷ map tree_declaration ds)) all.0.is ∙ no_items cs ds all.1
-no_items _ _ all = absurd (assumption)
-
-pub no_tags : (collections : List Collection) (declarations behind : List Declaration) → AreItems collections declarations
-    → tags_of (map tree_declaration (declarations ++ behind)) ≡ tags_of (map tree_declaration behind)
-no_tags [] [] behind all = refl
-no_tags (c ∷ cs) (d ∷ ds) behind all = ap (λ (it : Declaration). tags_of (tree_declaration it ∷ map tree_declaration (ds ++ behind))) all.0.is ∙ no_tags cs ds behind all.1
-no_tags _ _ _ all = absurd (assumption)
-
-pub tags_back : (collections : List Collection) (declarations : List Declaration) → AreTags collections declarations → tags_of (map tree_declaration declarations) ≡ collections
-tags_back [] [] all = refl
-tags_back (c ∷ cs) (d ∷ ds) all = simp (all.0.is, all.0.many, tags_back cs ds all.1)
-tags_back _ _ all = absurd (assumption)
+pub declared_back : (items tags : List Collection) (one two : List Declaration) → AreItems items one → AreTags tags two
+    → (items_of (map tree_declaration (one ++ two)) ≡ items) × (tags_of (map tree_declaration (one ++ two)) ≡ tags)
+declared_back [] tags [] two all all2 = only_tags tags two all2
+declared_back (c ∷ cs) tags (d ∷ ds) two all all2 = let rest = declared_back cs tags ds two all.1 all2 in (simp (all.0.is, all.0.many, rest.0), simp (all.0.is, rest.1))
+declared_back _ _ _ _ all _ = absurd (assumption)
 
 -- ---- limits
 

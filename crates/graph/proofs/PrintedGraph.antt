@@ -17,8 +17,8 @@ use Rattle.graph.specs.Prescribed.{names_of_steps}
 use Rattle.graph.specs.Canonical.{those, in_brackets, in_angles, step_text, step_relations, environment_relations, canonical}
 use Rattle.graph.proofs.PrintedTokens.{found_at, never, anything, Printed, and, whole, in_order}
 use Rattle.graph.proofs.PrintedBlocks.{many_names}
-use Rattle.graph.proofs.PrintedDeclarations.{Declarable, declaration_line, item_lines_printed, tag_lines_printed, Declares, tree_declaration, are_declarations, items_back, no_items, no_tags}
-use Rattle.graph.proofs.PrintedDeclarations.{tags_back, declarations_within, without_fault}
+use Rattle.graph.proofs.PrintedDeclarations.{Declarable, declaration_line, item_lines_printed, tag_lines_printed, Declares, tree_declaration, are_declarations, declared_back}
+use Rattle.graph.proofs.PrintedDeclarations.{declarations_within, without_fault}
 use Rattle.graph.proofs.PrintedApart.{each_marked, fewer_marked, Apart, apart, Clear}
 use Rattle.graph.proofs.PrintedRelations.{Shape, shape_of, Shaped, HasGoodNames, step_shapes, environment_shapes, shapes, tree_relation, shapes_back, shape_line, relations_printed, relation_lines, are_relations, Names}
 use Rattle.graph.proofs.PrintedMarks.{prescribed, clash, IsThere, IsKnown, relations_without_fault, shapes_apart, marks_told, step_marks_told, in_lists}
@@ -221,9 +221,9 @@ canonical_reads g is short =
           (omega (arith, length-map relations tree_relation, as_many Shaped (shapes g) relations it.relations.related, shapes_count g is.graph.items.few few_tags is.graph.few));
       steps = vec_of trees.values (omega (arith, as_many (Shown g) trees.values g.steps trees.shown, is.graph.few));
     } in
-    let items : items_of (map tree_declaration (one ++ two)) ≡ g.items =
-    items_back g.items one two it.items.related ∙ ap (λ (l : List Collection). g.items ++ l) (no_items g.tags two it.tags.related) ∙ append-nil g.items in
-    let tags : tags_of (map tree_declaration (one ++ two)) ≡ g.tags = no_tags g.items one two it.items.related ∙ tags_back g.tags two it.tags.related in
+    let back = declared_back g.items g.tags one two it.items.related it.tags.related in
+    let items : items_of (map tree_declaration (one ++ two)) ≡ g.items = back.0 in
+    let tags : tags_of (map tree_declaration (one ++ two)) ≡ g.tags = back.1 in
     let all_facts = facts g is relations it.relations.related in
     let declared : declaration_faults [] [] (map tree_declaration (one ++ two)) ≡ [] =
     without_fault [] g.items g.tags one two it.items.related it.tags.related (items_apart g is) (tags_apart g is) (nothing_before (names_in g.items)) (nothing_before (names_in g.tags)) in
