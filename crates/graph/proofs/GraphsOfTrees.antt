@@ -75,8 +75,7 @@ module _ (tree : Tree) (g : Graph) (small : IsSmall tree) (none : tree_faults tr
       let parameters : step.parameters ≡ length named.parameters.items = means.parameters in
       let same : sheet_in tree named ≡ sheet_of g step = λ i. record { items = sym is.items i; tags = sym is.tags i; reads = sym means.reads i; item_puts = sym means.item_puts i; tag_puts = sym means.tag_puts i } in
       record {
-        prescribed = subst (λ (n : ℕ). IsOf g.tags step.prescriber n) (sym parameters)
-            (subst (λ (l : List Collection). IsOf l step.prescriber (length named.parameters.items)) (sym is.tags) (prescribed_as_declared number named tag step.prescriber there first at));
+        prescribed = rw (parameters, is.tags) (prescribed_as_declared number named tag step.prescriber there first at);
         parameters = omega (arith, count, sum, parameters);
         names = omega (arith, count, few.names);
         keeps = subst (λ (sheet : Nameable). BodyKeepsTo sheet step.body) same means.keeps;

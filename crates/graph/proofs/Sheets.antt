@@ -1,11 +1,11 @@
 -- What a tree without a fault lets its steps name, as its tables say; and the faults of its bodies, one step after another.
 use Rattle.std.proofs.Common.{◌≡◌, ◌<◌, ℕ, suc, Bool, false, List, [], ◌∷◌, length, map, get_or, Option, Some, None, refl, sym, ap, subst, ◌∙◌, slice_get, arith, ◌+◌, zero, ◌++◌, take, drop}
-use Rattle.std.proofs.lemmas.List.{length-map, take-append-drop, map-append, get_or_default, take_all}
+use Rattle.std.proofs.lemmas.List.{length-map, take-append-drop, map-append, get_or_default, take_all, ext_get_or, get_or-map}
 use Rattle.std.specs.Prelude.{Vec, option_map}
 use Rattle.std.specs.List.{IsDistinct, list_any}
 use Rattle.std.specs.Str.{bytes_eq}
 use Rattle.std.specs.declared.alloc.Global.{Global}
-use Rattle.std.proofs.lemmas.Option.{slice_get-map, get_or_from_slice_get}
+use Rattle.std.proofs.lemmas.Option.{slice_get-map, get_or_from_slice_get, slice_get-get_or}
 use Rattle.terms.specs.declared.name.TagCollection.{TagCollection}
 use Rattle.steptree.specs.declared.step.Step.{Step as NamedStep}
 use Rattle.steptree.specs.CheckFaults.{faults_of}
@@ -34,20 +34,13 @@ use Rattle.graph.specs.Reads.{body_faults}
 
 -- ---- marks
 
--- the values of these names are a row of marks, where they are so at each place
-agree : (value : Text → Bool) (names : List Text) (row : List Bool) → length row ≡ length names → ((place : ℕ) (name : Text) → slice_get names place ≡ Some name → value name ≡ get_or row place false) → row ≡ map value names
-agree value [] [] long same = refl
-agree value [] (mark ∷ row) long same = absurd (omega arith)
-agree value (name ∷ names) [] long same = absurd (omega arith)
-agree value (name ∷ names) (mark ∷ row) long same =
-    let head : mark ≡ value name = sym (same 0 name refl) in
-    let tail : row ≡ map value names = agree value names row (omega arith) (λ place it there. same (suc place) it there) in
-    cc
-
+-- the marks of a row, name by name
 pub row_told : (is : Text → Relation → Bool) (names : List Text) (relations : List Relation) (row : List Bool) → IsDistinct bytes_eq names → AreMarks is names relations row → row ≡ each_of is relations names
 row_told is names relations row distinct are =
-    agree (λ name. list_any (is name) relations) names row are.long
-    (λ place name there. are.each name ∙ ap (mark_at row) (own_place names place name distinct there))
+    ext_get_or false row (each_of is relations names) (are.long ∙ sym (length-map names (λ name. list_any (is name) relations)))
+    (λ place within. let there : place < length names = omega (arith, within, are.long) in
+    sym (get_or-map (λ name. list_any (is name) relations) names place [] false there
+    ∙ are.each (get_or names place []) ∙ ap (mark_at row) (own_place names place (get_or names place []) distinct (slice_get-get_or names place [] there))))
 
 marks_of : (is : Text → Text → Relation → Bool) (steps names : List Text) (relations : List Relation) (rows : List (List Bool)) (number : ℕ) (step : Text) → number < length steps
     → place_of steps step ≡ Some number
