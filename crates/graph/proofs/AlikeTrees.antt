@@ -201,8 +201,7 @@ module _ (t u : Tree) (g h : Graph) (same : SharesNames t u) (tags_are_same : g.
       }
 
   steps_same : (texts : List StepText) (ones twos : List NamedStep) (firsts seconds : List Step) → AreAll IsStep texts ones → AreAll IsStep texts twos → AreAll (IsStepOf t g) ones firsts
-      → AreAll (IsStepOf u h) twos seconds
-      → firsts ≡ seconds
+      → AreAll (IsStepOf u h) twos seconds → firsts ≡ seconds
   steps_same [] [] [] [] [] a b c d = refl
   steps_same (text ∷ texts) (one ∷ ones) (two ∷ twos) (first ∷ firsts) (second ∷ seconds) a b c d =
       let step = step_same text one two first second a.0 b.0 c.0 d.0 in let rest = steps_same texts ones twos firsts seconds a.1 b.1 c.1 d.1 in λ i. step i ∷ rest i

@@ -21,8 +21,7 @@ use Rattle.std.proofs.lemmas.List.Elements.{Contains-append_left, Contains-appen
 
 -- the lists after a step is appended to the one at a place
 pub one_added : (lists : List (Vec StepCollection Global)) (place : ℕ) (old new : Vec StepCollection Global) (step : StepCollection) → place < length lists → old ≡ get_or lists place old
-    → new.items ≡ old.items ++ step ∷ []
-    → numbers_of (set lists place new) ≡ set (numbers_of lists) place (get_or (numbers_of lists) place [] ++ step.0 ∷ [])
+    → new.items ≡ old.items ++ step ∷ [] → numbers_of (set lists place new) ≡ set (numbers_of lists) place (get_or (numbers_of lists) place [] ++ step.0 ∷ [])
 one_added lists place old new step within is more =
     map-set (λ steps. map (λ step. step.0) steps.items) lists place new
     ∙ ap (set (numbers_of lists) place)

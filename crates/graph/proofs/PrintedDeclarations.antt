@@ -216,8 +216,7 @@ tags_within items before (c ∷ cs) (d ∷ ds) few all =
 tags_within _ _ _ _ _ all = absurd (assumption)
 
 pub declarations_within : (before : ℕ) (items tags : List Collection) (one two : List Declaration) → before + length items ≤ MOST_COLLECTIONS → length tags ≤ MOST_COLLECTIONS
-    → AreItems items one → AreTags tags two
-    → declarations_limits before 0 (one ++ two) ≡ []
+    → AreItems items one → AreTags tags two → declarations_limits before 0 (one ++ two) ≡ []
 declarations_within before [] tags [] two few few2 all all2 = tags_within before 0 tags two (omega arith) all2
 declarations_within before (c ∷ cs) tags (d ∷ ds) two few few2 all all2 =
     ap (λ (it : Declaration). declarations_limits before 0 (it ∷ (ds ++ two))) all.0.is

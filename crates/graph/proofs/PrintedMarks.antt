@@ -117,8 +117,7 @@ module _ (items tags steps : List Text) where
   one_without before d is all = grind (arith, none_before d before all, is)
 
   pub relations_without_fault : (before relations : List Relation) → AllByRecursion IsKnown (map shape_of relations) → Apart clash (map shape_of relations)
-      → Clear clash (map shape_of before) (map shape_of relations)
-      → relation_faults items tags steps (map tree_relation before) (map tree_relation relations) ≡ []
+      → Clear clash (map shape_of before) (map shape_of relations) → relation_faults items tags steps (map tree_relation before) (map tree_relation relations) ≡ []
   relations_without_fault before [] is apart clear = refl
   relations_without_fault before (d ∷ relations) is apart clear =
       let ones : AllByRecursion (λ y. AllByRecursion (λ x. clash y x ≡ false) (shape_of d ∷ [])) (map shape_of relations) =

@@ -74,8 +74,7 @@ pub record Shaped (shape : Shape) (relation : Relation) : Type 0 where
 -- ---- one relation
 
 arrow_printed : {stop other : ℕ → Bool} {place : ℕ} {from to : Text} {p q : List Piece} → Printed stop place from p → Printed other (place + length (from ++ codes " -> ")) to q
-    → stop 32 ≡ false → other 59 ≡ false
-    → Printed never place (arrow from to) (arrow_pieces p q)
+    → stop 32 ≡ false → other 59 ≡ false → Printed never place (arrow from to) (arrow_pieces p q)
 arrow_printed {stop} {other} {place} {from} {to} one two space_may end_may =
     let head = behind one (arrow_sign (place + length from)) (λ rest may. space_may) in
     and_blanks (behind (and head two) (semicolon (place + length (from ++ codes " -> " ++ to))) (λ rest may. end_may)) (codes "\n") (refl, tt) (λ rest may. refl)

@@ -190,8 +190,7 @@ module _ (names : List Text) (sheet : Nameable) where
       statement_read _ _ _ _ _ _ _ _ is means = absurd (assumption)
 
       statements_read : (around : ℕ) (them : Statements B) (block : NamedBlock) (b : Block) → AreSound (statements_pieces own_pieces them) → statements_limits own_limits around them ≡ []
-          → AreStatements IsOwn them block
-          → IsBlock names sheet block b → Kind around b
+          → AreStatements IsOwn them block → IsBlock names sheet block b → Kind around b
       statements_read around no_more block b sound none is means = ends_read around block b is means
       statements_read around (and_then first more) block b sound none is means =
           statement_read around first more block b (λ it rest are so. statements_read around more it rest (search (front, rear)) (search (first_empty, second_empty)) are so)
@@ -200,8 +199,7 @@ module _ (names : List Text) (sheet : Nameable) where
   -- ---- keys, gets and puts
 
   key_read : (collections : List Collection) (key : Key) (it : Name) (parts : List NamedExpression) (index : ℕ) (es : List Expression) → AreSound (sums_pieces key.components)
-      → key_limits key ≡ [] → IsKey key it parts → IsKeyOf names collections it parts index es
-      → AreComponents (length names) es
+      → key_limits key ≡ [] → IsKey key it parts → IsKeyOf names collections it parts index es → AreComponents (length names) es
   key_read collections key it parts index es sound none is means = components_read names key.components parts es sound (search second_empty) is.1 means.1
 
   read_kind : IsKind (length names) (IsReadBlock (length names))
@@ -211,16 +209,14 @@ module _ (names : List Text) (sheet : Nameable) where
   write_kind = assumption
 
   get_read : (around : ℕ) (get : Get) (block : NamedBlock) (b : Block) (Rest : NamedBlock → Type 0) → Rests names sheet (IsReadBlock (length names)) around Rest → AreSound (get_pieces get)
-      → get_limits get ≡ [] → IsGet get block Rest
-      → IsBlock names sheet block b → IsReadBlock (length names) around b
+      → get_limits get ≡ [] → IsGet get block Rest → IsBlock names sheet block b → IsReadBlock (length names) around b
   get_read around get (tree.Get called named key rest) (tree.Get slot collection es more) Rest rests sound none is means =
       let parts : AreSound (sums_pieces get.item.components ++ a_sign sign.CloseBracket ++ a_sign sign.Semicolon) = sound.1.1.1.1.1 in
       (slot_within names called slot means.0, key_read sheet.items get.item named key.items collection.0 es (search (front, parts)) (search second_empty) is.1 means.1, rests rest more is.2 means.2)
   get_read _ _ _ _ _ _ _ _ is means = absurd (assumption)
 
   put_read : (around : ℕ) (put : Put) (block : NamedBlock) (b : Block) (Rest : NamedBlock → Type 0) → Rests names sheet (IsWriteBlock (length names)) around Rest → AreSound (put_pieces put)
-      → put_limits put ≡ [] → IsPut put block Rest
-      → IsBlock names sheet block b → IsWriteBlock (length names) around b
+      → put_limits put ≡ [] → IsPut put block Rest → IsBlock names sheet block b → IsWriteBlock (length names) around b
   put_read around (put_item item value) (PutItem named key it rest) (tree.PutItem collection es e more) Rest rests sound none is means =
       let parts : AreSound (sums_pieces item.components ++ a_sign sign.CloseBracket ++ a_sign sign.Assign ++ expr_pieces value ++ a_sign sign.Semicolon) = sound.1.1.1 in (
         key_read sheet.items item named key.items collection.0 es (search (front, parts)) (search first_empty) is.0 means.0,
@@ -233,11 +229,9 @@ module _ (names : List Text) (sheet : Nameable) where
   put_read _ _ _ _ _ _ _ _ is means = absurd (assumption)
 
   pub read_block_read : (them : Statements Get) (block : NamedBlock) (b : Block) → AreSound (statements_pieces get_pieces them) → statements_limits get_limits 0 them ≡ []
-      → AreStatements IsGet them block → IsBlock names sheet block b
-      → IsReadBlock (length names) 0 b
+      → AreStatements IsGet them block → IsBlock names sheet block b → IsReadBlock (length names) 0 b
   read_block_read = statements_read (IsReadBlock (length names)) read_kind IsGet get_pieces get_limits get_read 0
 
   pub write_block_read : (them : Statements Put) (block : NamedBlock) (b : Block) → AreSound (statements_pieces put_pieces them) → statements_limits put_limits 0 them ≡ []
-      → AreStatements IsPut them block → IsBlock names sheet block b
-      → IsWriteBlock (length names) 0 b
+      → AreStatements IsPut them block → IsBlock names sheet block b → IsWriteBlock (length names) 0 b
   write_block_read = statements_read (IsWriteBlock (length names)) write_kind IsPut put_pieces put_limits put_read 0

@@ -225,8 +225,7 @@ module _ (items tags steps : List Text) (all : List Relation) where
 
 -- where nothing is marked, no relation has been added yet
 pub begun : (items tags steps : List Text) (all : List Relation) (numbers : Numbers) (i t s : ℕ) (them : Relations) → AreNumbers items tags steps numbers → i ≡ length numbers.items.now
-    → t ≡ length numbers.tags.now
-    → length steps ≡ s → IsUnmarked i t s them → RelatedSoFar items tags steps all 0 them
+    → t ≡ length numbers.tags.now → length steps ≡ s → IsUnmarked i t s them → RelatedSoFar items tags steps all 0 them
 begun items tags steps all numbers i t s them are of_items of_tags of_steps none =
     let is : i ≡ length items = of_items ∙ sym (length-map numbers.items.now (λ entry. entry.0)) ∙ ap length are.items_are in
     let ts : t ≡ length tags = of_tags ∙ sym (length-map numbers.tags.now (λ entry. entry.0)) ∙ ap length are.tags_are in

@@ -43,8 +43,7 @@ row_told is names relations row distinct are =
     ∙ are.each (get_or names place []) ∙ ap (mark_at row) (own_place names place (get_or names place []) distinct (slice_get-get_or names place [] there))))
 
 marks_of : (is : Text → Text → Relation → Bool) (steps names : List Text) (relations : List Relation) (rows : List (List Bool)) (number : ℕ) (step : Text) → number < length steps
-    → place_of steps step ≡ Some number
-    → AreRows is steps names relations rows → AreMarks (is step) names relations (get_or rows number [])
+    → place_of steps step ≡ Some number → AreRows is steps names relations rows → AreMarks (is step) names relations (get_or rows number [])
 marks_of is steps names relations rows number step within place are = record {
   long = each_at (λ row. length row ≡ length names) rows number [] (omega (arith, are.long)) are.wide;
   each = λ name. are.each step name ∙ ap (λ (p : Option ℕ). mark_between rows p (place_of names name)) place;
@@ -113,8 +112,7 @@ module _ (tree : Tree) (resolved : Resolved) (small : IsSmall tree) (none : tree
 
   -- the tag that prescribes it, and its number
   tag_told : (tag : Option Text) (at : Option TagCollection) → prescriber_of tree.relations.items (text_of step.name) ≡ tag → arity_faults (tags_of tree.declarations.items) tag step ≡ []
-      → IsPrescriber tags tag at
-      → (it : TagCollection) × (at ≡ Some it) × IsPrescribedBy tree step it.0
+      → IsPrescriber tags tag at → (it : TagCollection) × (at ≡ Some it) × IsPrescribedBy tree step it.0
   tag_told None at first right by = absurd (cc)
   tag_told (Some tag) None first right by = absurd by
   tag_told (Some tag) (Some it) first right by = (it, refl, record { tag = tag; first = first; place = by })
