@@ -19,7 +19,6 @@ use Rattle.graph.proofs.PrintedExpressions.{OnePrinted, joined_printed, no_all, 
 use Rattle.graph.proofs.PrintedValues.{name_of}
 use Rattle.graph.proofs.PrintedApart.{take_each, Apart, Clear, clear_of_both, nowhere}
 use Rattle.steptree.specs.Nameable.{Collection}
-use Rattle.syntax.specs.declared.token.Symbol.TheVariants as sign
 use Rattle.graph.proofs.Lists.{as_many, no_both, each_weaker, in_common}
 use Rattle.std.specs.Prelude.{is_some}
 use Rattle.steptree.specs.declared.sheet.TheConstants.{MOST_COLLECTIONS}

@@ -5,7 +5,6 @@ use Rattle.std.proofs.lemmas.Grind.{flat_map-append}
 use Rattle.std.specs.List.{AllByRecursion, flat_map, list_any}
 use Rattle.steptree.specs.Names.{Text, names_in, is_text}
 use Rattle.syntax.specs.declared.token.Word.TheVariants as kept
-use Rattle.syntax.specs.declared.token.Symbol.TheVariants as sign
 use Rattle.syntax.specs.Grammar.{Relation, prescribes, reads, puts_item, puts_tag, environment_puts_item, environment_puts_tag, environment_gets}
 use Rattle.syntax.specs.Spelled.{Piece, relation_pieces, arrow as arrow_pieces, plain, at}
 use Rattle.syntax.specs.Limits.{name_limits, relation_limits}
