@@ -20,8 +20,8 @@ use Rattle.graph.specs.Tree.{text_of, items_of, tags_of, step_names, is_name, is
 use Rattle.graph.specs.Faults.{fault_if, or_else, has, repeated, declaration_faults, same_relation, relation_fault, relation_faults, components_of, is_other, arity_faults, step_faults, tree_faults}
 use Rattle.graph.proofs.Lists.{any_agree, in_common}
 use Rattle.graph.proofs.PrintedApart.{any_mapped}
-use Rattle.graph.proofs.PrintedDeclared.{tree_declaration}
-use Rattle.graph.proofs.PrintedSets.{tree_relation}
+use Rattle.graph.proofs.PrintedDeclarations.{tree_declaration}
+use Rattle.graph.proofs.PrintedRelations.{tree_relation}
 use Rattle.graph.proofs.PrintedValues.{name_of}
 
 -- ---- at no particular place in memory
@@ -83,7 +83,8 @@ same_bare one two = grind arith
 any_bare : (test other : Relating → Bool) → ((it : Relating) → test (bare_relation it) ≡ other it) → (them : List Relating) → list_any test (map bare_relation them) ≡ list_any other them
 any_bare test other same them = any_mapped test bare_relation them ∙ any_agree (λ it. test (bare_relation it)) other them same
 
-each_bare : (is : Text → Relating → Bool) → ((name : Text) (it : Relating) → is name (bare_relation it) ≡ is name it) → (them : List Relating) (names : List Text) → each_of is (map bare_relation them) names ≡ each_of is them names
+each_bare : (is : Text → Relating → Bool) → ((name : Text) (it : Relating) → is name (bare_relation it) ≡ is name it) → (them : List Relating) (names : List Text)
+    → each_of is (map bare_relation them) names ≡ each_of is them names
 each_bare is same them names = λ i. map (λ name. any_bare (is name) (is name) (same name) them i) names
 
 prescriber_bare : (them : List Relating) (step : Text) → prescriber_of (map bare_relation them) step ≡ prescriber_of them step
@@ -113,9 +114,6 @@ pub record SharesNames (t u : Tree) : Type 0 where
   pub items : items_of t.declarations.items ≡ items_of u.declarations.items
   pub tags : tags_of t.declarations.items ≡ tags_of u.declarations.items
   pub relations : map bare_relation t.relations.items ≡ map bare_relation u.relations.items
-
-one_bare : (it : Named) (one two : Name) → IsName it one → IsName it two → bare one ≡ bare two
-one_bare it one two a b = sym (name_bare it one a) ∙ name_bare it two b
 
 pub names_bare : (texts : List Named) (ones twos : List Name) → AreAll IsName texts ones → AreAll IsName texts twos → map bare ones ≡ map bare twos
 names_bare texts ones twos a b = sym (in_common IsName name_of bare name_bare texts ones a) ∙ in_common IsName name_of bare name_bare texts twos b
@@ -155,7 +153,8 @@ module _ (t u : Tree) (same : SharesNames t u) where
 
   -- ---- the faults of their steps
 
-  arity_same : (tags : List Collection) (prescriber : Option Text) (one two : NamedStep) → bare one.name ≡ bare two.name → length one.parameters.items ≡ length two.parameters.items → arity_faults tags prescriber one ≡ arity_faults tags prescriber two
+  arity_same : (tags : List Collection) (prescriber : Option Text) (one two : NamedStep) → bare one.name ≡ bare two.name → length one.parameters.items ≡ length two.parameters.items
+      → arity_faults tags prescriber one ≡ arity_faults tags prescriber two
   arity_same tags None one two name many = λ i. fault_if true error.NoPrescriber (name i).place
   arity_same tags (Some tag) one two name many = λ i. fault_if (is_other (components_of tags tag) (many i)) error.Arity (name i).place
 
@@ -163,7 +162,7 @@ module _ (t u : Tree) (same : SharesNames t u) where
       → step_faults tags t.relations.items before ones ≡ step_faults tags u.relations.items also twos
   steps_same tags before also same_before [] [] [] a b = refl
   steps_same tags before also same_before (text ∷ texts) (one ∷ ones) (two ∷ twos) a b =
-      let name = one_bare text.name one.name two.name a.0.name b.0.name in
+      let name = sym (name_bare text.name one.name a.0.name) ∙ name_bare text.name two.name b.0.name in
       let parameters = names_bare (all_names text.parameters) one.parameters.items two.parameters.items a.0.parameters b.0.parameters in
       let variables = names_bare (all_names text.variables) one.variables.items two.variables.items a.0.variables b.0.variables in
       let many : length one.parameters.items ≡ length two.parameters.items = sym (length-map one.parameters.items bare) ∙ ap length parameters ∙ length-map two.parameters.items bare in

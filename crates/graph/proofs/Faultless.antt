@@ -1,7 +1,10 @@
--- What holds of a tree without a fault: its names differ, and its steps have the right numbers of parameters.
-use Rattle.std.proofs.Common.{◌≡◌, ℕ, zero, suc, Bool, false, if◌then◌else◌, List, [], ◌∷◌, ◌++◌, Option, Some, None, map, refl, sym, subst, ◌∙◌, append_assoc, slice_get, arith}
+-- The first of the faults of several parts; what holds of a tree without a fault: its names differ, and its steps have the right numbers of parameters.
+use Rattle.std.proofs.Common.{◌≡◌, List, [], ◌∷◌, ◌++◌, sym, ap, subst, inl, inr, ℕ, zero, suc, Bool, false, if◌then◌else◌, Option, Some, None, map, refl, ◌∙◌, append_assoc, slice_get, arith}
+use Rattle.std.specs.Prelude.{Result, Ok, Err, IfErr, IsErrAnd, MatchResult, option_map, is_some}
+use Rattle.graph.specs.declared.fault.PlacedFault.{PlacedFault}
+use Rattle.graph.specs.Faults.{At, fault_if, or_else, has, repeated, declaration_faults, relation_faults, step_faults, arity_faults, tree_faults}
+use Rattle.graph.specs.Placed.{IsFirst}
 use Rattle.std.proofs.lemmas.List.{append-nil}
-use Rattle.std.specs.Prelude.{option_map, is_some}
 use Rattle.std.specs.List.{IsDistinct}
 use Rattle.std.specs.Str.{bytes_eq}
 use Rattle.steptree.specs.declared.step.Name.{Name}
@@ -14,10 +17,32 @@ use Rattle.syntax.specs.declared.tree.Relation.{Relation}
 use Rattle.syntax.specs.declared.tree.Tree.{Tree}
 use Rattle.graph.specs.declared.fault.GraphError.{GraphError}
 use Rattle.graph.specs.declared.fault.GraphError.TheVariants.{Redeclared, StepTwice}
-use Rattle.graph.specs.Faults.{At, fault_if, or_else, has, repeated, declaration_faults, relation_faults, step_faults, arity_faults, tree_faults}
 use Rattle.graph.specs.Tree.{text_of, items_of, tags_of, step_names, prescriber_of}
 use Rattle.graph.proofs.Texts.{texts_are_bytes}
 use Rattle.graph.proofs.Lists.{each_of_both}
+
+pub empty_in_front : (xs ys : List At) → xs ≡ [] → xs ++ ys ≡ ys
+empty_in_front xs ys none = ap (λ l. l ++ ys) none
+
+-- if the front part has a fault, its first fault is the first of all
+pub in_front : (front others : List At) (fault : PlacedFault) → IsFirst front fault → IsFirst (front ++ others) fault
+in_front [] others fault (inl memory) = inl memory
+in_front [] others fault (inr first) = absurd (cc)
+in_front (x ∷ front) others fault first = first
+
+-- if the front part has no fault, the first of the others is the first of all
+pub behind_none : (front others : List At) (fault : PlacedFault) → front ≡ [] → IsFirst others fault → IsFirst (front ++ others) fault
+behind_none front others fault none first = subst (λ (l : List At). IsFirst l fault) (sym (empty_in_front front others none)) first
+
+-- a fault that is passed on, whatever is known of a value
+pub fault_passed_on : {X : Type 0} (P : X → Type 0) (Q : PlacedFault → Type 0) (result : Result X PlacedFault) (fault : PlacedFault) → IsErrAnd result (λ other. other ≡ fault) → Q fault → MatchResult result P Q
+fault_passed_on P Q (Ok value) fault is it = absurd is
+fault_passed_on P Q (Err other) fault is it = subst Q (sym is) it
+
+-- the same, if nothing is known of a value
+pub err_passed_on : {X : Type 0} (Q : PlacedFault → Type 0) (result : Result X PlacedFault) (fault : PlacedFault) → IsErrAnd result (λ other. other ≡ fault) → Q fault → IfErr result Q
+err_passed_on Q (Ok value) fault is it = absurd is
+err_passed_on Q (Err other) fault is it = subst Q (sym is) it
 
 -- ---- lists that are empty
 

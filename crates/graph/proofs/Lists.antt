@@ -1,39 +1,22 @@
 -- Lists, one element after another.
-use Rattle.std.proofs.Common.{◌≡◌, ◌<◌, ℕ, zero, suc, ◌+◌, List, [], ◌∷◌, length, map, drop, get_or, Some, slice_get, refl, sym, ap, subst, ◌∙◌, arith, Bool, ◌||◌, ◌++◌}
+use Rattle.std.proofs.Common.{◌≡◌, ◌<◌, ℕ, zero, suc, ◌+◌, List, [], ◌∷◌, length, map, drop, get_or, Some, slice_get, refl, sym, ap, subst, ◌∙◌, Bool, ◌||◌, ◌++◌, take}
 use Rattle.std.specs.List.{AllByRecursion, list_any, flat_map}
 use Rattle.std.proofs.lemmas.Option.{slice_get_within, get_or_from_slice_get, slice_get-get_or}
-use Rattle.std.proofs.Math.Seq.{drop-cons}
 use Rattle.syntax.specs.Tree.{AreAll}
+use Rattle.std.proofs.lemmas.List.{drop_more, take_more}
+use Rattle.std.proofs.lemmas.List.Elements.{All-from_recursion}
 
 -- what is left at an index: the element there, and those after it
 pub opened : {X : Type 0} (xs : List X) (index : ℕ) (this : X) → index < length xs → this ≡ get_or xs index this → drop index xs ≡ this ∷ drop (index + 1) xs
-opened xs index this within is =
-    let next : suc index ≡ index + 1 = omega arith in
-    drop-cons xs index this within ∙ ap (λ x. x ∷ drop (suc index) xs) (sym is) ∙ ap (λ (n : ℕ). this ∷ drop n xs) next
+opened xs index this within is = drop_more xs index this within ∙ ap (λ x. x ∷ drop (index + 1) xs) (sym is)
 
-past_all : {X : Type 0} (xs : List X) → drop (length xs) xs ≡ []
-past_all [] = refl
-past_all (x ∷ xs) = past_all xs
-
--- nothing is left after the last element
-pub past : {X : Type 0} (xs : List X) (index : ℕ) → index ≡ length xs → drop index xs ≡ []
-past xs index all = ap (λ (n : ℕ). drop n xs) all ∙ past_all xs
-
--- inside a list the default does not matter
-pub any_default : {X : Type 0} (xs : List X) (index : ℕ) (one two : X) → index < length xs → get_or xs index one ≡ get_or xs index two
-any_default [] index one two within = absurd (omega arith)
-any_default (x ∷ xs) zero one two within = refl
-any_default (x ∷ xs) (suc index) one two within = any_default xs index one two (omega arith)
-
--- what is read at an index is the element there, whatever the default
-pub stands : {X : Type 0} (xs : List X) (index : ℕ) (default this : X) → index < length xs → get_or xs index default ≡ this → this ≡ get_or xs index this
-stands xs index default this within is = sym is ∙ any_default xs index default this within
+-- what was taken before an index, and the element there
+pub taken : {X : Type 0} (xs : List X) (index : ℕ) (this : X) → index < length xs → this ≡ get_or xs index this → take (index + 1) xs ≡ take index xs ++ this ∷ []
+taken xs index this within is = take_more xs index this within ∙ ap (λ x. take index xs ++ x ∷ []) (sym is)
 
 -- what holds of each element holds of the one at an index
 pub each_at : {X : Type 0} (P : X → Type 0) (xs : List X) (index : ℕ) (default : X) → index < length xs → AllByRecursion P xs → P (get_or xs index default)
-each_at P [] index default within all = absurd (omega arith)
-each_at P (x ∷ xs) zero default within all = all.0
-each_at P (x ∷ xs) (suc index) default within all = each_at P xs index default (omega arith) all.1
+each_at P xs index default within all = All-from_recursion P xs all index default within
 
 pub each_found : {X : Type 0} (P : X → Type 0) (xs : List X) (index : ℕ) (this : X) → slice_get xs index ≡ Some this → AllByRecursion P xs → P this
 each_found P xs index this there all = subst P (get_or_from_slice_get xs index this this there) (each_at P xs index this (slice_get_within xs index this there) all)

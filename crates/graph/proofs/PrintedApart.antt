@@ -5,7 +5,7 @@ use Rattle.std.specs.Prelude.{⊤}
 use Rattle.std.specs.List.{AllByRecursion, flat_map, list_any, zip}
 use Rattle.steptree.specs.Names.{Text, is_text, place_of}
 use Rattle.graph.specs.Canonical.{marked}
-use Rattle.graph.proofs.PrintedNames.{AreDistinct, distinct_rest, other_text}
+use Rattle.graph.proofs.PrintedTokens.{AreDistinct, distinct_rest, other_text}
 use Rattle.graph.proofs.Texts.{itself, same_both_ways}
 use Rattle.graph.proofs.Lists.{each_weaker, each_of_both}
 
@@ -52,9 +52,6 @@ module _ {X : Type 0} (clash : X → X → Bool) where
     each_of_both (λ y. clash y x ≡ false) xs ys one.0 (each_weaker (λ y. AllByRecursion (λ z. clash y z ≡ false) (x ∷ xs)) (λ y. clash y x ≡ false) (λ y h. h.0) ys clear),
     apart_both xs ys one.1 two (each_weaker (λ y. AllByRecursion (λ z. clash y z ≡ false) (x ∷ xs)) (λ y. AllByRecursion (λ z. clash y z ≡ false) xs) (λ y h. h.1) ys clear),
   )
-
-  pub clear_both : (before xs ys : List X) → Clear before xs → Clear before ys → Clear before (xs ++ ys)
-  clear_both before xs ys one two = each_of_both (λ y. AllByRecursion (λ x. clash y x ≡ false) before) xs ys one two
 
   pub clear_of_both : (xs ys behind : List X) → Clear xs behind → Clear ys behind → Clear (xs ++ ys) behind
   clear_of_both xs ys [] one two = tt

@@ -1,25 +1,28 @@
--- The relations of a graph as they are printed.
-use Rattle.std.proofs.Common.{◌≡◌, ℕ, ◌+◌, Bool, false, List, [], ◌∷◌, ◌++◌, length, get_or, map, codes, refl, ap, ◌∙◌, append_assoc}
+-- The relations of a graph as they are printed, and their trees.
+use Rattle.std.proofs.Common.{◌≡◌, ℕ, ◌+◌, Bool, false, List, [], ◌∷◌, ◌++◌, length, get_or, map, codes, refl, ap, ◌∙◌, append_assoc, zero, suc, ◌&&◌, Some, sym, subst, arith}
 use Rattle.std.proofs.lemmas.List.Folds.{flat_map-map}
 use Rattle.std.proofs.lemmas.Grind.{flat_map-append}
-use Rattle.std.specs.List.{AllByRecursion, flat_map}
-use Rattle.steptree.specs.Names.{Text, names_in}
+use Rattle.std.specs.List.{AllByRecursion, flat_map, list_any}
+use Rattle.steptree.specs.Names.{Text, names_in, is_text}
 use Rattle.syntax.specs.declared.token.Word.TheVariants as kept
-use Rattle.syntax.specs.declared.token.Symbol.TheVariants as sign
 use Rattle.syntax.specs.Grammar.{Relation, prescribes, reads, puts_item, puts_tag, environment_puts_item, environment_puts_tag, environment_gets}
-use Rattle.syntax.specs.Spelled.{Piece, a_sign, sign_at, relation_pieces}
-use Rattle.syntax.specs.Spelled.{arrow as arrow_pieces}
+use Rattle.syntax.specs.Spelled.{Piece, relation_pieces, arrow as arrow_pieces, plain, at}
 use Rattle.syntax.specs.Limits.{name_limits, relation_limits}
 use Rattle.graph.specs.Graph.{Graph, Step}
 use Rattle.graph.specs.Textual.{IsGraphName}
 use Rattle.graph.specs.Canonical.{in_brackets, in_angles, in_rounds, arrow, line, those, step_relations, environment_relations}
-use Rattle.graph.proofs.PrintedTokens.{after_word, never, anything, Printed, behind, and, and_blanks, closed_sign}
-use Rattle.graph.proofs.PrintedNames.{printed_name, name_fronts, no_name_limit, word_at, a_word_alone}
-use Rattle.graph.proofs.PrintedExpressions.{rounded, rounded_anywhere}
-use Rattle.graph.proofs.PrintedLists.{OnePrinted, AllPrinted, all_printed}
-use Rattle.graph.proofs.PrintedLines.{semicolon, arrow_sign, colons}
-use Rattle.graph.proofs.PrintedDeclarations.{bracketed, angled}
-use Rattle.graph.proofs.Lists.{no_both}
+use Rattle.graph.proofs.PrintedTokens.{never, anything, Printed, behind, and, and_blanks, printed_name, name_fronts, no_name_limit, word_at, a_word_alone, semicolon, arrow_sign, colons, inside_rounds}
+use Rattle.graph.proofs.PrintedTokens.{inside_brackets, inside_angles}
+use Rattle.graph.proofs.PrintedExpressions.{OnePrinted, AllPrinted, all_printed}
+use Rattle.graph.proofs.Lists.{no_both, any_agree, each_found, each_unmapped}
+use Rattle.std.specs.Prelude.{slice_get}
+use Rattle.syntax.specs.declared.tree.Relation.{Relation as Related}
+use Rattle.syntax.specs.declared.tree.Relation.TheVariants as tree
+use Rattle.syntax.specs.Tree.{AreAll, IsRelation}
+use Rattle.graph.specs.Prescribed.{names_of_steps}
+use Rattle.graph.proofs.PrintedApart.{any_mapped, Apart, flipped}
+use Rattle.graph.proofs.PrintedValues.{name_of}
+use Rattle.graph.proofs.Texts.{itself}
 
 -- a relation by its names, without a position
 pub data Shape : Type 0 where
@@ -49,14 +52,18 @@ shape_line (an_environment_item item) = arrow (codes "env") (in_brackets item)
 shape_line (an_environment_tag tag) = arrow (codes "env") (in_angles tag)
 shape_line (an_environment_get item) = arrow (in_brackets item) (codes "env")
 
+-- the names of items, of tags and of steps in the relation are such
+abbrev pub Names : (Text → Type 0) → (Text → Type 0) → (Text → Type 0) → Shape → Type 0
+Names IsItem IsTag IsStep (a_prescription tag step) = IsTag tag × IsStep step
+Names IsItem IsTag IsStep (a_read item step) = IsItem item × IsStep step
+Names IsItem IsTag IsStep (an_item_put step item) = IsStep step × IsItem item
+Names IsItem IsTag IsStep (a_tag_put step tag) = IsStep step × IsTag tag
+Names IsItem IsTag IsStep (an_environment_item item) = IsItem item
+Names IsItem IsTag IsStep (an_environment_tag tag) = IsTag tag
+Names IsItem IsTag IsStep (an_environment_get item) = IsItem item
+
 abbrev pub HasGoodNames : Shape → Type 0
-HasGoodNames (a_prescription tag step) = IsGraphName tag × IsGraphName step
-HasGoodNames (a_read item step) = IsGraphName item × IsGraphName step
-HasGoodNames (an_item_put step item) = IsGraphName step × IsGraphName item
-HasGoodNames (a_tag_put step tag) = IsGraphName step × IsGraphName tag
-HasGoodNames (an_environment_item item) = IsGraphName item
-HasGoodNames (an_environment_tag tag) = IsGraphName tag
-HasGoodNames (an_environment_get item) = IsGraphName item
+HasGoodNames shape = Names IsGraphName IsGraphName IsGraphName shape
 
 -- a derivation of this relation
 pub record Shaped (shape : Shape) (relation : Relation) : Type 0 where
@@ -65,12 +72,8 @@ pub record Shaped (shape : Shape) (relation : Relation) : Type 0 where
 
 -- ---- one relation
 
-bracketed_at : {place : ℕ} {text : Text} {pieces : List Piece} → Printed after_word (place + 1) text pieces → Printed never place (in_brackets text) (sign_at place sign.OpenBracket ++ pieces ++ a_sign sign.CloseBracket)
-bracketed_at {place} {text} one =
-    and (closed_sign place 91 sign.OpenBracket _ (refl, refl) refl refl) (behind one (closed_sign (place + 1 + length text) 93 sign.CloseBracket _ refl refl refl) (λ rest may. refl))
-
-arrow_printed : {stop other : ℕ → Bool} {place : ℕ} {from to : Text} {p q : List Piece} → Printed stop place from p → Printed other (place + length (from ++ codes " -> ")) to q → stop 32 ≡ false → other 59 ≡ false
-    → Printed never place (arrow from to) (arrow_pieces p q)
+arrow_printed : {stop other : ℕ → Bool} {place : ℕ} {from to : Text} {p q : List Piece} → Printed stop place from p → Printed other (place + length (from ++ codes " -> ")) to q
+    → stop 32 ≡ false → other 59 ≡ false → Printed never place (arrow from to) (arrow_pieces p q)
 arrow_printed {stop} {other} {place} {from} {to} one two space_may end_may =
     let head = behind one (arrow_sign (place + length from)) (λ rest may. space_may) in
     and_blanks (behind (and head two) (semicolon (place + length (from ++ codes " -> " ++ to))) (λ rest may. end_may)) (codes "\n") (refl, tt) (λ rest may. refl)
@@ -81,40 +84,40 @@ both_names one two place other is is2 = no_both _ _ (no_name_limit one place is)
 relation_printed : (shape : Shape) (place : ℕ) → HasGoodNames shape → OnePrinted never shape_line relation_pieces Shaped place shape
 relation_printed (a_prescription tag step) place good =
     let there : ℕ = place + length (in_angles tag ++ codes " :: ") in
-    let head = behind (angled (name_fronts tag good.0) (printed_name (place + 1) tag good.0)) (colons (place + length (in_angles tag))) (λ rest may. refl) in
-    let all = and (and head (rounded_anywhere (printed_name (there + 1) step good.1))) (semicolon (place + length (in_angles tag ++ codes " :: " ++ in_rounds step))) in record {
+    let head = behind (inside_angles (name_fronts tag good.0) (printed_name (place + 1) tag good.0)) (colons (place + length (in_angles tag))) (λ rest may. refl) in
+    let all = and (and head (inside_rounds (plain _) refl (printed_name (there + 1) step good.1))) (semicolon (place + length (in_angles tag ++ codes " :: " ++ in_rounds step))) in record {
       derived = prescribes (tag, place + 1) (step, there + 1);
       printed = and_blanks all (codes "\n") (refl, tt) (λ rest may. refl);
       related = record { is = refl; limits = both_names tag step (place + 1) (there + 1) good.0 good.1 };
     }
 relation_printed (a_read item step) place good = let there : ℕ = place + length (in_brackets item ++ codes " -> ") in record {
   derived = reads place (item, place + 1) (step, there + 1);
-  printed = arrow_printed (bracketed_at (printed_name (place + 1) item good.0)) (rounded_anywhere (printed_name (there + 1) step good.1)) refl refl;
+  printed = arrow_printed (inside_brackets (at _ _) (refl, refl) (printed_name (place + 1) item good.0)) (inside_rounds (plain _) refl (printed_name (there + 1) step good.1)) refl refl;
   related = record { is = refl; limits = both_names item step (place + 1) (there + 1) good.0 good.1 };
 }
 relation_printed (an_item_put step item) place good = let there : ℕ = place + length (in_rounds step ++ codes " -> ") in record {
   derived = puts_item place (step, place + 1) (item, there + 1);
-  printed = arrow_printed (rounded (printed_name (place + 1) step good.0)) (bracketed (printed_name (there + 1) item good.1)) refl refl;
+  printed = arrow_printed (inside_rounds (at _ _) (refl, refl) (printed_name (place + 1) step good.0)) (inside_brackets (plain _) refl (printed_name (there + 1) item good.1)) refl refl;
   related = record { is = refl; limits = both_names step item (place + 1) (there + 1) good.0 good.1 };
 }
 relation_printed (a_tag_put step tag) place good = let there : ℕ = place + length (in_rounds step ++ codes " -> ") in record {
   derived = puts_tag place (step, place + 1) (tag, there + 1);
-  printed = arrow_printed (rounded (printed_name (place + 1) step good.0)) (angled (name_fronts tag good.1) (printed_name (there + 1) tag good.1)) refl refl;
+  printed = arrow_printed (inside_rounds (at _ _) (refl, refl) (printed_name (place + 1) step good.0)) (inside_angles (name_fronts tag good.1) (printed_name (there + 1) tag good.1)) refl refl;
   related = record { is = refl; limits = both_names step tag (place + 1) (there + 1) good.0 good.1 };
 }
 relation_printed (an_environment_item item) place good = let there : ℕ = place + length (codes "env" ++ codes " -> ") in record {
   derived = environment_puts_item place (item, there + 1);
-  printed = arrow_printed (word_at place kept.Env) (bracketed (printed_name (there + 1) item good)) refl refl;
+  printed = arrow_printed (word_at place kept.Env) (inside_brackets (plain _) refl (printed_name (there + 1) item good)) refl refl;
   related = record { is = refl; limits = no_name_limit item (there + 1) good };
 }
 relation_printed (an_environment_tag tag) place good = let there : ℕ = place + length (codes "env" ++ codes " -> ") in record {
   derived = environment_puts_tag place (tag, there + 1);
-  printed = arrow_printed (word_at place kept.Env) (angled (name_fronts tag good) (printed_name (there + 1) tag good)) refl refl;
+  printed = arrow_printed (word_at place kept.Env) (inside_angles (name_fronts tag good) (printed_name (there + 1) tag good)) refl refl;
   related = record { is = refl; limits = no_name_limit tag (there + 1) good };
 }
 relation_printed (an_environment_get item) place good = let there : ℕ = place + length (in_brackets item ++ codes " -> ") in record {
   derived = environment_gets place (item, place + 1);
-  printed = arrow_printed (bracketed_at (printed_name (place + 1) item good)) (a_word_alone there kept.Env) refl refl;
+  printed = arrow_printed (inside_brackets (at _ _) (refl, refl) (printed_name (place + 1) item good)) (a_word_alone there kept.Env) refl refl;
   related = record { is = refl; limits = no_name_limit item (place + 1) good };
 }
 
@@ -140,23 +143,79 @@ flat_of_flat : {X Y Z : Type 0} (f : Y → List Z) (h : X → List Y) (k : X →
 flat_of_flat f h k same [] = refl
 flat_of_flat f h k same (x ∷ xs) = flat_map-append f (h x) (flat_map h xs) ∙ (λ i. same x i ++ flat_of_flat f h k same xs i)
 
--- three lists of texts, each with its own lines
-three : (a b c : Text → Shape) (xs ys zs : List Text) → flat_map shape_line (map a xs ++ map b ys ++ map c zs)
-    ≡ flat_map (λ x. shape_line (a x)) xs ++ flat_map (λ x. shape_line (b x)) ys ++ flat_map (λ x. shape_line (c x)) zs
-three a b c xs ys zs = simp (flat_map-append, flat_map-map)
-
 regrouped : (a b c d : Text) → a ++ (b ++ c ++ d) ≡ a ++ b ++ c ++ d
 regrouped a b c d = simp append_assoc
 
 step_lines : (g : Graph) (step : Step) → flat_map shape_line (step_shapes g step) ≡ step_relations g step
-step_lines g step =
-    ap (λ (l : Text). shape_line (a_prescription (get_or (names_in g.tags) step.prescriber []) step.name) ++ l)
-    (three (λ item. a_read item step.name) (λ item. an_item_put step.name item) (λ tag. a_tag_put step.name tag) (those g.items step.reads) (those g.items step.item_puts) (those g.tags step.tag_puts))
-    ∙ regrouped (shape_line (a_prescription (get_or (names_in g.tags) step.prescriber []) step.name)) (flat_map (λ item. shape_line (a_read item step.name)) (those g.items step.reads))
-    (flat_map (λ item. shape_line (an_item_put step.name item)) (those g.items step.item_puts)) (flat_map (λ tag. shape_line (a_tag_put step.name tag)) (those g.tags step.tag_puts))
+step_lines g step = simp (flat_map-append, flat_map-map) (regrouped (shape_line (a_prescription (get_or (names_in g.tags) step.prescriber []) step.name)) _ _ _)
 
 pub relation_lines : (g : Graph) → flat_map shape_line (shapes g) ≡ flat_map (step_relations g) g.steps ++ environment_relations g
 relation_lines g =
     flat_map-append shape_line (flat_map (step_shapes g) g.steps) (environment_shapes g)
-    ∙ (λ i. flat_of_flat shape_line (step_shapes g) (step_relations g) (step_lines g) g.steps i
-    ++ three (λ item. an_environment_item item) (λ tag. an_environment_tag tag) (λ item. an_environment_get item) (those g.items g.environment_item_puts) (those g.tags g.environment_tag_puts) (those g.items g.environment_gets) i)
+    ∙ (λ i. flat_of_flat shape_line (step_shapes g) (step_relations g) (step_lines g) g.steps i ++ environment_lines i)
+  where
+    environment_lines : flat_map shape_line (environment_shapes g) ≡ environment_relations g
+    environment_lines = simp (flat_map-append, flat_map-map)
+
+-- ---- trees of relations
+
+abbrev pub tree_relation : Relation → Related
+tree_relation (prescribes tag step) = tree.Prescribes (name_of tag) (name_of step)
+tree_relation (reads position item step) = tree.Reads position (name_of item) (name_of step)
+tree_relation (puts_item position step item) = tree.PutsItem position (name_of step) (name_of item)
+tree_relation (puts_tag position step tag) = tree.PutsTag position (name_of step) (name_of tag)
+tree_relation (environment_puts_item position item) = tree.EnvironmentPutsItem position (name_of item)
+tree_relation (environment_puts_tag position tag) = tree.EnvironmentPutsTag position (name_of tag)
+tree_relation (environment_gets position item) = tree.EnvironmentGets position (name_of item)
+
+pub are_relations : (relations : List Relation) → AreAll IsRelation relations (map tree_relation relations)
+are_relations [] = tt
+are_relations (prescribes tag step ∷ more) = (search, are_relations more)
+are_relations (_ ∷ more) = (search, are_relations more)
+
+-- a tree of this relation, without positions
+abbrev pub bare : Shape → Related
+bare (a_prescription tag step) = tree.Prescribes (name_of (tag, 0)) (name_of (step, 0))
+bare (a_read item step) = tree.Reads 0 (name_of (item, 0)) (name_of (step, 0))
+bare (an_item_put step item) = tree.PutsItem 0 (name_of (step, 0)) (name_of (item, 0))
+bare (a_tag_put step tag) = tree.PutsTag 0 (name_of (step, 0)) (name_of (tag, 0))
+bare (an_environment_item item) = tree.EnvironmentPutsItem 0 (name_of (item, 0))
+bare (an_environment_tag tag) = tree.EnvironmentPutsTag 0 (name_of (tag, 0))
+bare (an_environment_get item) = tree.EnvironmentGets 0 (name_of (item, 0))
+
+pub shapes_back : (those : List Shape) (relations : List Relation) → AreAll Shaped those relations → map shape_of relations ≡ those
+shapes_back [] [] all = refl
+shapes_back (shape ∷ those) (relation ∷ relations) all = let heads : shape_of relation ≡ shape = all.0.is in let tails = shapes_back those relations all.1 in cc
+shapes_back _ _ all = absurd (assumption)
+
+-- whether the list has this relation depends on names alone
+pub told : (test : Related → Bool) → ((relation : Relation) → test (tree_relation relation) ≡ test (bare (shape_of relation))) → (those : List Shape) (relations : List Relation) → AreAll Shaped those relations
+    → list_any test (map tree_relation relations) ≡ list_any (λ shape. test (bare shape)) those
+told test same those relations all =
+    any_mapped test tree_relation relations ∙ any_agree (λ relation. test (tree_relation relation)) (λ relation. test (bare (shape_of relation))) relations same
+    ∙ sym (any_mapped (λ (shape : Shape). test (bare shape)) shape_of relations) ∙ ap (λ (l : List Shape). list_any (λ shape. test (bare shape)) l) (shapes_back those relations all)
+
+-- ---- one of the steps
+
+pub other_name : (name : Text) (steps : List Step) (index : ℕ) (step : Step) → slice_get steps index ≡ Some step → AllByRecursion (λ text. is_text text name ≡ false) (names_of_steps steps)
+    → is_text step.name name ≡ false
+other_name name steps index step there all =
+    each_found (λ (it : Step). is_text it.name name ≡ false) steps index step there (each_unmapped (λ text. is_text text name ≡ false) (λ (it : Step). it.name) steps all)
+
+pub only_one : (F : Step → Bool) (steps : List Step) (index : ℕ) (step : Step) → slice_get steps index ≡ Some step → Apart is_text (names_of_steps steps)
+    → list_any (λ other. F other && is_text other.name step.name) steps ≡ F step
+only_one F [] index step there apart = absurd (cc)
+only_one F (first ∷ steps) zero step there apart =
+    let same : first ≡ step = cc in
+    subst (λ (it : Step). list_any (λ other. F other && is_text other.name it.name) (first ∷ steps) ≡ F it) same
+    (grind (arith, itself first.name, others steps apart.0))
+  where
+    others : (steps : List Step) → AllByRecursion (λ text. is_text text first.name ≡ false) (names_of_steps steps) → list_any (λ other. F other && is_text other.name first.name) steps ≡ false
+    others [] all = refl
+    others (other ∷ steps) all = grind (arith, all.0, others steps all.1)
+only_one F (first ∷ steps) (suc index) step there apart = grind (arith, flipped step.name first.name (other_name first.name steps index step there apart.0), only_one F steps index step there apart.1)
+
+-- a test that nothing passes
+pub any_false : {X : Type 0} (xs : List X) → list_any (λ (x : X). false) xs ≡ false
+any_false [] = refl
+any_false (x ∷ xs) = any_false xs

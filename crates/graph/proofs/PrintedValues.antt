@@ -5,7 +5,6 @@ use Rattle.std.specs.declared.alloc.Global.{Global}
 use denote.RawPtr.{null_ptr}
 use Rattle.steptree.specs.declared.step.Name.{Name}
 use Rattle.syntax.specs.Grammar.{Named}
-use Rattle.syntax.specs.Tree.{IsName}
 
 abbrev heap : Global
 heap = record { memory = record { seal = tt } }
@@ -17,6 +16,3 @@ vec_of items fits = record { ptr = null_ptr; len = length items; cap = length it
 -- the name of a derivation
 abbrev pub name_of : Named → Name
 name_of it = record { text = record { ref_ptr = (0, 0); now = it.0 }; place = it.1 }
-
-pub is_name_of : (it : Named) → IsName it (name_of it)
-is_name_of it = (refl, refl)

@@ -10,16 +10,20 @@ use Rattle.graph.specs.Graph.{Step, Graph, IsGraph}
 use Rattle.graph.specs.Seen.{collection_seen, step_seen}
 use Rattle.graph.specs.Numbered.{names_numbered}
 use Rattle.graph.specs.Prescribed.{prescribed_by, prescribed_from, names_of_steps}
-
-fused : {X Y Z : Type 0} (f : X → Y) (g : Y → Z) (xs : List X) → map g (map f xs) ≡ map (λ x. g (f x)) xs
-fused f g [] = refl
-fused f g (x ∷ xs) = ap (λ l. g (f x) ∷ l) (fused f g xs)
+use Rattle.std.proofs.lemmas.Simd.{map-map}
 
 pub items_named : (items : List (Text × ℕ)) → names_numbered items ≡ names_in (map collection_seen items)
-items_named items = sym (fused collection_seen (λ collection. collection.name) items)
+items_named items = sym (map-map (λ collection. collection.name) collection_seen items)
 
-pub steps_named : (steps : List (Text × Prescribed)) → names_numbered steps ≡ names_of_steps (map step_seen steps)
-steps_named steps = sym (fused step_seen (λ step. step.name) steps)
+-- the names in what is seen of a graph, or of its parts
+pub items_seen : (items : List (Text × ℕ)) (seen g : Graph) → seen.items ≡ map collection_seen items → seen ≡ g → names_numbered items ≡ names_in g.items
+items_seen items seen g is same = items_named items ∙ ap names_in (sym is) ∙ ap (λ (it : Graph). names_in it.items) same
+
+pub tags_seen : (tags : List (Text × ℕ)) (seen g : Graph) → seen.tags ≡ map collection_seen tags → seen ≡ g → names_numbered tags ≡ names_in g.tags
+tags_seen tags seen g is same = items_named tags ∙ ap names_in (sym is) ∙ ap (λ (it : Graph). names_in it.tags) same
+
+pub steps_seen : (steps : List (Text × Prescribed)) (seen g : Graph) → seen.steps ≡ map step_seen steps → seen ≡ g → names_numbered steps ≡ names_of_steps g.steps
+steps_seen steps seen g is same = sym (map-map (λ step. step.name) step_seen steps) ∙ ap names_of_steps (sym is) ∙ ap (λ (it : Graph). names_of_steps it.steps) same
 
 none_of : (tag number : ℕ) (steps : List Step) → ((place : ℕ) (step : Step) → slice_get steps place ≡ Some step → (step.prescriber == tag) ≡ false) → prescribed_from number steps tag ≡ []
 none_of tag number [] other = refl
@@ -45,7 +49,8 @@ no_step_value steps number none = none_mapped (λ (entry : Text × Prescribed). 
 pub no_step_name : (steps : List (Text × Prescribed)) (number : ℕ) → None ≡ slice_get (names_numbered steps) number → None ≡ slice_get (map step_seen steps) number
 no_step_name steps number none = none_mapped (λ (entry : Text × Prescribed). entry.0) step_seen (slice_get steps number) (none ∙ slice_get-map (λ entry. entry.0) steps number) ∙ sym (slice_get-map step_seen steps number)
 
-its_entry : (steps : List (Text × Prescribed)) (number : ℕ) (it : Prescribed) → Some it ≡ option_map (λ entry. entry.1) (slice_get steps number) → (name : Text) × (slice_get (map step_seen steps) number ≡ Some (step_seen (name, it)))
+its_entry : (steps : List (Text × Prescribed)) (number : ℕ) (it : Prescribed) → Some it ≡ option_map (λ entry. entry.1) (slice_get steps number)
+    → (name : Text) × (slice_get (map step_seen steps) number ≡ Some (step_seen (name, it)))
 its_entry [] number it there = absurd (cc)
 its_entry (entry ∷ steps) zero it there =
     let same : entry.1 ≡ it = cc in

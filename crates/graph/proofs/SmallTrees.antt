@@ -1,7 +1,6 @@
 -- A tree that is read within the limits is small.
-use Rattle.std.proofs.Common.{◌≡◌, ◌≤◌, ◌<◌, ◌+◌, ◌-◌, ℕ, zero, suc, List, [], ◌∷◌, ◌++◌, length, drop, ap, ◌∙◌, arith, length-append, length-drop}
+use Rattle.std.proofs.Common.{◌≡◌, ◌≤◌, ◌<◌, ◌+◌, ◌-◌, ℕ, suc, List, [], ◌∷◌, ◌++◌, length, drop, ap, ◌∙◌, arith, length-append, length-drop}
 use Rattle.std.proofs.lemmas.Bool.Decides.{nat_tests}
-use Rattle.std.specs.Prelude.{All}
 use Rattle.std.specs.List.{AllByRecursion}
 use Rattle.std.proofs.lemmas.List.{length-map}
 use Rattle.terms.specs.declared.key.TheConstants.{MAX_COMPONENTS}
@@ -20,6 +19,7 @@ use Rattle.graph.specs.Small.{IsSmallStep, IsSmall}
 use Rattle.graph.specs.Tree.{items_of, tags_of}
 use Rattle.graph.proofs.Faultless.{first_empty, second_empty}
 use Rattle.graph.proofs.Lists.{as_many}
+use Rattle.std.proofs.lemmas.List.Elements.{All-from_recursion}
 
 -- ---- limits that are kept
 
@@ -32,14 +32,6 @@ few most names none =
     let zero_many : length (names_behind most names) ≡ 0 = ap (λ (l : List Position). length l) none in
     omega (arith, many, zero_many)
 
-to_all : {X : Type 0} (P : X → Type 0) (xs : List X) → AllByRecursion P xs → All P xs
-to_all P [] all = λ index default within. absurd (omega arith)
-to_all P (x ∷ xs) all = at (to_all P xs all.1)
-  where
-    at : All P xs → All P (x ∷ xs)
-    at rest zero default within = all.0
-    at rest (suc index) default within = rest index default (omega arith)
-
 -- ---- declarations
 
 abbrev Short : Collection → Type 0
@@ -51,7 +43,8 @@ record AreFew (items tags : ℕ) (ds : List Declared) : Type 0 where
   short_items : AllByRecursion Short (items_of ds)
   short_tags : AllByRecursion Short (tags_of ds)
 
-declarations : (items tags : ℕ) (texts : List Declaration) (ds : List Declared) → items ≤ MOST_COLLECTIONS → tags ≤ MOST_COLLECTIONS → declarations_limits items tags texts ≡ [] → AreAll IsDeclaration texts ds → AreFew items tags ds
+declarations : (items tags : ℕ) (texts : List Declaration) (ds : List Declared) → items ≤ MOST_COLLECTIONS → tags ≤ MOST_COLLECTIONS → declarations_limits items tags texts ≡ []
+    → AreAll IsDeclaration texts ds → AreFew items tags ds
 declarations items tags [] [] one two none all = record { few_items = omega arith; few_tags = omega arith; short_items = tt; short_tags = tt }
 declarations items tags (item_declared it components ∷ texts) (declared.Item name number ∷ ds) one two none all =
     let fits = room MOST_COLLECTIONS items it.1 (search (first_empty, second_empty)) in
@@ -96,8 +89,8 @@ is_small graph tree is within =
     let ds = declarations 0 0 graph.declarations tree.declarations.items (omega arith) (omega arith) (search (first_empty, second_empty)) is.declarations in
     let steps = few_small 0 graph.steps tree.steps.items (omega arith) (search (first_empty, second_empty)) is.steps in
     record {
-      items = record { few = omega (arith, ds.few_items); short = to_all Short (items_of tree.declarations.items) ds.short_items };
-      tags = record { few = omega (arith, ds.few_tags); short = to_all Short (tags_of tree.declarations.items) ds.short_tags };
+      items = record { few = omega (arith, ds.few_items); short = All-from_recursion Short (items_of tree.declarations.items) ds.short_items };
+      tags = record { few = omega (arith, ds.few_tags); short = All-from_recursion Short (tags_of tree.declarations.items) ds.short_tags };
       few = omega (arith, steps.few_steps);
       steps = steps.small;
     }

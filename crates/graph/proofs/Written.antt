@@ -1,15 +1,16 @@
 -- The canonical text, one part after another.
-use Rattle.std.proofs.Common.{◌≡◌, ◌+◌, ◌-◌, ◌<◌, ℕ, zero, suc, min, Bool, true, false, List, [], ◌∷◌, ◌++◌, length, map, get_or, drop, take, Option, Some, None, refl, sym, ap, subst, ◌∙◌, Result, OnOk, slice_get, arith, append_assoc, length-append, length-drop}
-use Rattle.std.proofs.Math.Seq.{take-length}
+use Rattle.std.proofs.Common.{◌≡◌, ◌+◌, ◌-◌, ◌<◌, ℕ, zero, suc, min, Bool, true, false, List, [], ◌∷◌, ◌++◌, length, map, get_or, drop, take, Option, Some, None, refl, sym, ap, subst, ◌∙◌, Result, OnOk, slice_get, arith, append_assoc, length-append}
+use Rattle.std.proofs.Math.Seq.{drop-nil}
 use Rattle.std.specs.Prelude.{codes, unwrap_or}
 use Rattle.std.proofs.lemmas.Option.{unwrap_or-slice_get}
-use Rattle.std.proofs.lemmas.List.{take_min, take-map, drop-map}
+use Rattle.std.proofs.lemmas.List.{take_min, take-map, drop-map, take_rest}
 use Rattle.std.specs.List.{flat_map, zip}
 use Rattle.std.proofs.lemmas.List.{append-nil}
 use Rattle.steptree.specs.Names.{Text}
 use Rattle.graph.specs.Canonical.{line, marked, joined, with_colon, letters, component_names, declaration_lines, in_rounds, variables_line}
 use Rattle.graph.specs.Collected.{collections_numbered}
 use Rattle.graph.specs.Pieces.{indentation, where_marked, after_colon, declaration_at, where_there}
+use Rattle.std.proofs.lemmas.List.Folds.{flat_map-map}
 
 -- what is written, with what is still to come, stays the same
 pub goes_on : (text piece left more whole new : Text) → new ≡ text ++ piece → left ≡ piece ++ more → text ++ left ≡ whole → new ++ more ≡ whole
@@ -43,10 +44,6 @@ one_level_more level =
 
 -- ---- marks
 
-drop_none : {X : Type 0} (number : ℕ) → drop {A = X} number [] ≡ []
-drop_none zero = refl
-drop_none (suc number) = refl
-
 marked_none : (names : List Text) → marked (zip names []) ≡ []
 marked_none [] = refl
 marked_none (name ∷ names) = refl
@@ -59,9 +56,9 @@ unmarked text (Some name) = refl
 pub marked_left : (text : Text → Text) (names : List Text) (marks : List Bool) (number : ℕ)
     → flat_map text (marked (zip (drop number names) (drop number marks)))
     ≡ where_marked text (slice_get names number) (get_or marks number false) ++ flat_map text (marked (zip (drop (number + 1) names) (drop (number + 1) marks)))
-marked_left text [] marks number = simp drop_none
+marked_left text [] marks number = simp drop-nil
 marked_left text (name ∷ names) [] zero = simp marked_none
-marked_left text (name ∷ names) [] (suc number) = simp (drop_none, marked_none, unmarked)
+marked_left text (name ∷ names) [] (suc number) = simp (drop-nil, marked_none, unmarked)
 marked_left text (name ∷ names) (true ∷ marks) zero = refl
 marked_left text (name ∷ names) (false ∷ marks) zero = refl
 marked_left text (name ∷ names) (mark ∷ marks) (suc number) = grind (arith, marked_left text names marks number)
@@ -72,27 +69,19 @@ pub colon_behind : (name : Text) (texts : List Text) → with_colon name texts �
 colon_behind name [] = sym (append-nil name)
 colon_behind name (first ∷ more) = append_assoc name (codes ": ") (joined (first ∷ more))
 
--- the first `count` of these, each after its comma
-pub behind_commas : (count : ℕ) (texts : List Text) → flat_map (λ (t : Text). t) (take count (map (λ t. codes ", " ++ t) texts)) ≡ flat_map (λ t. codes ", " ++ t) (take count texts)
-behind_commas zero texts = refl
-behind_commas (suc count) [] = refl
-behind_commas (suc count) (text ∷ texts) = ap (λ (t : Text). codes ", " ++ text ++ t) (behind_commas count texts)
+-- the texts of the first `count` of these
+taken : {X : Type 0} (text : X → Text) (count : ℕ) (xs : List X) → flat_map (λ (t : Text). t) (take count (map text xs)) ≡ flat_map text (take count xs)
+taken text count xs = ap (flat_map (λ (t : Text). t)) (take-map text count xs) ∙ flat_map-map (λ (t : Text). t) text (take count xs)
 
 pub letters_behind : (components : ℕ) → flat_map (λ (t : Text). t) (take components (codes ": i" ∷ map (λ t. codes ", " ++ t) (drop 1 letters))) ≡ after_colon (component_names components)
 letters_behind zero = refl
-letters_behind (suc more) = ap (λ (t : Text). codes ": i" ++ t) (behind_commas more (drop 1 letters))
-
--- the first `count` pieces, by their texts
-pieces_taken : {X : Type 0} (now : X → Text) (count : ℕ) (pieces : List X) → flat_map now (take count pieces) ≡ flat_map (λ (t : Text). t) (take count (map now pieces))
-pieces_taken now zero pieces = refl
-pieces_taken now (suc count) [] = refl
-pieces_taken now (suc count) (piece ∷ pieces) = ap (λ (t : Text). now piece ++ t) (pieces_taken now count pieces)
+letters_behind (suc more) = ap (λ (t : Text). codes ": i" ++ t) (taken (λ t. codes ", " ++ t) more (drop 1 letters))
 
 -- the first letters, each after its colon or comma
 letters_taken : {X : Type 0} (now : X → Text) (pieces : List X) (count components : ℕ) → count ≡ min components 8 → map now pieces ≡ codes ": i" ∷ map (λ t. codes ", " ++ t) (drop 1 letters)
     → flat_map now (take count pieces) ≡ after_colon (component_names components)
 letters_taken now pieces count components few are =
-    pieces_taken now count pieces ∙ ap (λ (l : List Text). flat_map (λ (t : Text). t) (take count l)) are
+    sym (taken now count pieces) ∙ ap (λ (l : List Text). flat_map (λ (t : Text). t) (take count l)) are
     ∙ ap (λ (n : ℕ). flat_map (λ (t : Text). t) (take n (codes ": i" ∷ map (λ t. codes ", " ++ t) (drop 1 letters)))) few
     ∙ ap (λ (l : List Text). flat_map (λ (t : Text). t) l) (take_min components (codes ": i" ∷ map (λ t. codes ", " ++ t) (drop 1 letters))) ∙ letters_behind components
 
@@ -110,22 +99,19 @@ no_name text names number none =
 
 pub declarations_left : (brackets : Text → Text) (collections : List (Text × ℕ)) (number : ℕ)
     → declaration_lines brackets (collections_numbered (drop number collections)) ≡ declaration_at brackets (slice_get collections number) ++ declaration_lines brackets (collections_numbered (drop (number + 1) collections))
-declarations_left brackets [] number = simp drop_none
+declarations_left brackets [] number = simp drop-nil
 declarations_left brackets (first ∷ collections) zero = refl
 declarations_left brackets (first ∷ collections) (suc number) = grind (arith, declarations_left brackets collections number)
 
 -- ---- steps
 
 module _ {X : Type 0} (text_of : X → Text) where
-  whole : (names : List X) (count : ℕ) → count ≡ length names → take count names ≡ names
-  whole names count all = ap (λ (n : ℕ). take n names) all ∙ take-length names
-
   -- the first `count` names are the parameters
   pub heading : (text one two name : Text) (names : List X) (count : ℕ) → one ≡ text ++ line 0 (codes "step " ++ name ++ in_rounds (joined (map text_of (take count names))) ++ codes " {")
       → two ≡ one ++ variables_line (map text_of (take (length names - count) (drop count names)))
       → two ≡ text ++ (line 0 (codes "step " ++ name ++ in_rounds (joined (take count (map text_of names))) ++ codes " {") ++ variables_line (drop count (map text_of names)))
   heading text one two name names count first second =
-      second ∙ ap (λ (l : List X). one ++ variables_line (map text_of l)) (whole (drop count names) (length names - count) (sym (length-drop count names)))
+      second ∙ ap (λ (l : List X). one ++ variables_line (map text_of l)) (take_rest names count)
       ∙ ap (λ (t : Text). t ++ variables_line (map text_of (drop count names))) first
       ∙ append_assoc text (line 0 (codes "step " ++ name ++ in_rounds (joined (map text_of (take count names))) ++ codes " {")) (variables_line (map text_of (drop count names)))
       ∙ (λ i. text ++ (line 0 (codes "step " ++ name ++ in_rounds (joined (sym (take-map text_of count names) i)) ++ codes " {") ++ variables_line (sym (drop-map text_of count names) i)))
@@ -134,6 +120,6 @@ module _ {X : Type 0} (text_of : X → Text) where
 
 -- the text of the elements that are left: that of the first of them, and that of those after it
 pub steps_left : {X : Type 0} (text : X → Text) (steps : List X) (number : ℕ) → flat_map text (drop number steps) ≡ where_there text (slice_get steps number) ++ flat_map text (drop (number + 1) steps)
-steps_left text [] number = simp drop_none
+steps_left text [] number = simp drop-nil
 steps_left text (step ∷ steps) zero = refl
 steps_left text (step ∷ steps) (suc number) = grind (arith, steps_left text steps number)

@@ -1,4 +1,4 @@
-use Rattle.graph.proofs.Declaring.{SoFar}
+use Rattle.graph.proofs.Resolving.{SoFar}
 use Rattle.graph.proofs.declarations.declare_all.Given as goal
 
 abbrev pub invariant-loop-declaration : goal.invariant-loop-declaration

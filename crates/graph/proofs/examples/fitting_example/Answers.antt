@@ -1,4 +1,4 @@
-use Rattle.graph.proofs.FittingTwo.{fitting_example}
+use Rattle.graph.proofs.WorkedExamples.{fitting_example}
 use Rattle.graph.proofs.examples.fitting_example.Goals as goal
 
 pub returns : goal.returns

@@ -1,4 +1,4 @@
-use Rattle.graph.proofs.PrintedReads.{canonical_reads}
+use Rattle.graph.proofs.PrintedGraph.{canonical_reads}
 use Rattle.graph.proofs.law.canonical_reads.Goals as goal
 
 pub returns : goal.returns

@@ -1,5 +1,4 @@
-use Rattle.graph.proofs.FitKept.{state_keeps, fit_keeps, all_fit_keep}
-use Rattle.graph.proofs.FitsInParts.{in_parts, state_as_set, event_as_set, events_as_set, fit_as_listed}
+use Rattle.graph.proofs.FitKept.{state_keeps, fit_keeps, all_fit_keep, in_parts, events_as_set, fit_as_listed}
 use Rattle.graph.proofs.law.fitting.Goals as goal
 
 pub returns-clause-state_keeps : goal.returns-clause-state_keeps
@@ -13,12 +12,6 @@ returns-clause-all_keep c = all_fit_keep c.facts_are_told_apart.ensures.one c.fa
 
 pub returns-clause-parts : goal.returns-clause-parts
 returns-clause-parts c = in_parts
-
-pub returns-clause-state_as_set : goal.returns-clause-state_as_set
-returns-clause-state_as_set c = state_as_set
-
-pub returns-clause-event_as_set : goal.returns-clause-event_as_set
-returns-clause-event_as_set c = event_as_set
 
 pub returns-clause-events_as_set : goal.returns-clause-events_as_set
 returns-clause-events_as_set c = events_as_set c.facts_are_told_apart.ensures.among

@@ -1,6 +1,6 @@
 use Rattle.std.proofs.Common.{arith}
 use Rattle.std.proofs.lemmas.Str.{IsUtf8-from_ascii}
-use Rattle.graph.proofs.AsciiTexts.{everywhere}
+use Rattle.graph.proofs.Texts.{everywhere}
 use Rattle.graph.proofs.parser.ascii.Goals as goal
 
 pub returns-in-Err : goal.returns-in-Err

@@ -7,9 +7,6 @@ use Rattle.graph.proofs.parser.read.Goals as goal
 pub graph_of-requires-clause-small : goal.graph_of-requires-clause-small
 graph_of-requires-clause-small c = let read = c.in_ok-tree.ensures.read in is_small read.graph c.in_ok-tree.tree read.is read.within
 
-pub graph_of-requires-clause-text : goal.graph_of-requires-clause-text
-graph_of-requires-clause-text c = (c.args.text.now, (c.if-text-gt-MOST_TEXT.false, c.in_ok-plain.ensures.1), subst (λ it. IsRead it c.in_ok-tree.tree) c.in_ok-plain.ensures.0 c.in_ok-tree.ensures.read)
-
 pub returns-clause-reads : goal.returns-clause-reads
 returns-clause-reads c =
     read_text c.args.text.now c.in_ok-tree.tree (c.if-text-gt-MOST_TEXT.false, c.in_ok-plain.ensures.1) (subst (λ it. IsRead it c.in_ok-tree.tree) c.in_ok-plain.ensures.0 c.in_ok-tree.ensures.read)

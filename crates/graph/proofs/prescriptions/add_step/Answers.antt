@@ -1,4 +1,4 @@
-use Rattle.graph.proofs.Rising.{one_added}
+use Rattle.graph.proofs.PrescribedSteps.{one_added}
 use Rattle.graph.proofs.prescriptions.add_step.Goals as goal
 
 pub returns : goal.returns

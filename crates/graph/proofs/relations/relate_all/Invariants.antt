@@ -1,7 +1,7 @@
 use Rattle.std.proofs.Common.{◌≡◌, List, length}
 use Rattle.steptree.specs.Names.{Text}
 use Rattle.graph.specs.Relations.{AreNumbers}
-use Rattle.graph.proofs.Unmarked.{RelatedSoFar}
+use Rattle.graph.proofs.Relating.{RelatedSoFar}
 use Rattle.graph.proofs.relations.relate_all.Given as goal
 
 abbrev pub invariant-loop-relation : goal.invariant-loop-relation

@@ -1,5 +1,5 @@
 use Rattle.graph.specs.Numbered.{names_numbered}
-use Rattle.graph.proofs.Naming.{AddedSoFar}
+use Rattle.graph.proofs.Checking.{AddedSoFar}
 use Rattle.graph.proofs.steps.add_names.Given as goal
 
 abbrev pub invariant-loop-name : goal.invariant-loop-name

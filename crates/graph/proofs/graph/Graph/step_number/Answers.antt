@@ -1,16 +1,9 @@
-use Rattle.std.proofs.Common.{◌∙◌, List, ap}
-use Rattle.steptree.specs.Names.{Text, place_of}
-use Rattle.graph.specs.Graph.{Graph}
-use Rattle.graph.specs.Prescribed.{names_of_steps}
-use Rattle.graph.proofs.Seen.{steps_named}
+use Rattle.std.proofs.Common.{refl}
+use Rattle.graph.proofs.Seen.{steps_seen}
 use Rattle.graph.proofs.graph.Graph.step_number.Goals as goal
 
 pub returns-in-Some : goal.returns-in-Some
-returns-in-Some c =
-    c.in-Some.ensures.number ∙ ap (λ (names : List Text). place_of names c.args.name.now) (steps_named c.self.inside.steps)
-    ∙ ap (λ (g : Graph). place_of (names_of_steps g.steps) c.args.name.now) c.self.view_is
+returns-in-Some c = rw (steps_seen c.self.inside.steps _ _ refl c.self.view_is) at c.in-Some.ensures.number
 
 pub returns-in-None : goal.returns-in-None
-returns-in-None c =
-    c.in-None.ensures.number ∙ ap (λ (names : List Text). place_of names c.args.name.now) (steps_named c.self.inside.steps)
-    ∙ ap (λ (g : Graph). place_of (names_of_steps g.steps) c.args.name.now) c.self.view_is
+returns-in-None c = rw (steps_seen c.self.inside.steps _ _ refl c.self.view_is) at c.in-None.ensures.number

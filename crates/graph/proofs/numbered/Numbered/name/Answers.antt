@@ -1,30 +1,22 @@
-use Rattle.std.proofs.Common.{◌≡◌, ◌∙◌, List, ap, sym, subst, Some, slice_get}
-use Rattle.std.specs.Prelude.{option_map}
+use Rattle.std.proofs.Common.{◌∙◌, ap, sym, slice_get}
 use Rattle.std.specs.String.{string_bytes}
-use Rattle.steptree.specs.Names.{Text, place_of}
-use Rattle.graph.specs.Numbered.{names_numbered}
-use Rattle.graph.proofs.Entries.{name_there, once}
+use Rattle.graph.proofs.Texts.{name_of_entry, no_name, once}
 use Rattle.graph.proofs.numbered.Numbered.name.Goals as goal
 
 pub returns-in-Some-clause-name : goal.returns-in-Some-clause-name
 returns-in-Some-clause-name g c =
-    let entries = c.self.inside.entries.entries in
-    let name = ap (λ (t : Text). Some t) c.as_str.ensures.value in
-    let there = c.in-Some.ensures.entry ∙ ap (λ l. slice_get l c.args.number) c.as_slice.ensures.entries in
-    name ∙ ap (option_map (λ entry. string_bytes entry.0)) there ∙ sym (name_there string_bytes entries c.args.number)
-    ∙ ap (λ (l : List (Text × g.row.V.Denot)). slice_get (names_numbered l) c.args.number) c.self.view_is
+    rw (← c.self.view_is, c.as_str.ensures.value)
+    (name_of_entry string_bytes c.self.inside.entries.entries c.args.number _
+    (c.in-Some.ensures.entry ∙ ap (λ l. slice_get l c.args.number) c.as_slice.ensures.entries))
 
 pub returns-in-None-clause-name : goal.returns-in-None-clause-name
 returns-in-None-clause-name g c =
-    let entries = c.self.inside.entries.entries in
-    let there = c.in-None.ensures.entry ∙ ap (λ l. slice_get l c.args.number) c.as_slice.ensures.entries in
-    ap (option_map (λ entry. string_bytes entry.0)) there ∙ sym (name_there string_bytes entries c.args.number)
-    ∙ ap (λ (l : List (Text × g.row.V.Denot)). slice_get (names_numbered l) c.args.number) c.self.view_is
+    rw (← c.self.view_is)
+    (no_name string_bytes c.self.inside.entries.entries c.args.number
+    (c.in-None.ensures.entry ∙ ap (λ l. slice_get l c.args.number) c.as_slice.ensures.entries))
 
 pub returns-in-Some-clause-once : goal.returns-in-Some-clause-once
 returns-in-Some-clause-once g c =
-    let entries = c.self.inside.entries.entries in
-    let there = sym (c.in-Some.ensures.entry ∙ ap (λ l. slice_get l c.args.number) c.as_slice.ensures.entries) in
-    ap (place_of (names_numbered c.args.self.now)) c.as_str.ensures.value
-    ∙ subst (λ (l : List (Text × g.row.V.Denot)). place_of (names_numbered l) (string_bytes c.in-Some.name.now) ≡ Some c.args.number) c.self.view_is
-    (once string_bytes entries c.args.number (c.in-Some.name.now, c.in-Some.field-0-1.now) c.as_slice.ensures.unique there)
+    rw (← c.self.view_is, c.as_str.ensures.value)
+    (once string_bytes c.self.inside.entries.entries c.args.number (c.in-Some.name.now, c.in-Some.field-0-1.now) c.as_slice.ensures.unique
+    (sym (c.in-Some.ensures.entry ∙ ap (λ l. slice_get l c.args.number) c.as_slice.ensures.entries)))

@@ -4,7 +4,7 @@ use Rattle.std.proofs.lemmas.List.{map-append}
 use Rattle.indexmap.proofs.CallerLemmas.{insert_entry-new}
 use Rattle.steptree.specs.Names.{Text, place_of}
 use Rattle.graph.specs.Numbered.{names_numbered}
-use Rattle.graph.proofs.Entries.{seen, absent}
+use Rattle.graph.proofs.Texts.{seen, absent}
 use Rattle.graph.proofs.numbered.Numbered.push.Goals as goal
 
 pub returns : goal.returns

@@ -1,10 +1,6 @@
-use Rattle.std.proofs.Common.{◌∙◌, List, ap, slice_get}
-use Rattle.steptree.specs.Names.{Text, names_in}
-use Rattle.graph.specs.Graph.{Graph}
-use Rattle.graph.proofs.Seen.{items_named}
+use Rattle.std.proofs.Common.{refl}
+use Rattle.graph.proofs.Seen.{tags_seen}
 use Rattle.graph.proofs.parts.Parts.tag_name.Goals as goal
 
 pub returns : goal.returns
-returns c =
-    c.name.ensures.name ∙ ap (λ (names : List Text). slice_get names c.args.tag.0) (items_named c.self.inside.tags.now)
-    ∙ ap (λ (g : Graph). slice_get (names_in g.tags) c.args.tag.0) c.self.view_is
+returns c = rw (tags_seen c.self.inside.tags.now _ _ refl c.self.view_is) at c.name.ensures.name

@@ -1,8 +1,20 @@
--- A tag and the end of the instance that it prescribes: they fit in this order alone.
-use Rattle.std.proofs.Common.{◌≡◌, List, [], ◌∷◌, ◌++◌, refl}
+-- The worked examples: a canonical text; a tag and the end of its instance, which fit in this order alone.
+use Rattle.std.proofs.Common.{◌≡◌, codes, refl, ◌∙◌, lit<, List, [], ◌∷◌, ◌++◌}
+use Rattle.std.specs.Fmt.{decimal}
+use Rattle.std.proofs.lemmas.Fmt.{decimal-digits_of}
+use Rattle.graph.specs.Examples.{CanonicalExample}
 use Rattle.std.proofs.lemmas.Bool.{false≢true}
 use Rattle.terms.specs.declared.name.Addr.{Addr}
 use Rattle.graph.specs.FitExample.{first_tag, FittingExample}
+
+one_spelled : decimal 1 ≡ codes "1"
+one_spelled = decimal-digits_of 1 (lit< tt) (lit< tt) ∙ refl
+
+two_spelled : decimal 2 ≡ codes "2"
+two_spelled = decimal-digits_of 2 (lit< tt) (lit< tt) ∙ refl
+
+pub canonical_example : CanonicalExample
+canonical_example = (rw (one_spelled, two_spelled) refl, refl)
 
 -- no address is among none
 not_in : (address : Addr) (before behind : List Addr) → [] ≡ before ++ address ∷ behind → ⊥
