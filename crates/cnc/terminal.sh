@@ -1,6 +1,6 @@
 #!/bin/sh
 # What a terminal shows of a fault: the line, with bytes that no terminal shows as escapes and with marks where it was cut, a caret, and a few words; and
-# what it says of a store that is refused.
+# what it says of a store that is refused, and of a file that cannot be opened.
 #
 # usage: terminal.sh CNC
 # It needs `script`, of util-linux, which makes a terminal.
@@ -119,7 +119,7 @@ compare 'a file that is not there' <<'R'
 R
 refused create graph store
 compare 'a store that is there' <<'R'
-  A file of a store is there already. Use another directory, or `cnc run` with this one.
+  A file `A` or `B` is there and not empty. Use another directory, or the store that is there, if one was made.
 R
 mkdir empty
 refused report empty
@@ -130,6 +130,6 @@ cp -r store changed
 printf '\377' | dd of=changed/A bs=1 seek=30 conv=notrunc 2>dd
 refused report changed
 compare 'a file that was changed' <<'R'
-  From this byte on the file is not as it was written.
+  The part of the file that begins at this byte is not one of a store.
 R
 echo "$tried lines of a terminal are right"

@@ -1,4 +1,4 @@
-//! Hints: what is wrong at the place of a fault, in a few words, for a person who does not know the fault numbers.
+//! Hints: what is wrong at the place of a fault, or with a store that is refused, for a person who does not know the numbers and messages.
 use graph::GraphError;
 use script::ScriptFault;
 use steptree::CheckError;
@@ -47,17 +47,19 @@ pub(crate) fn script_hint(fault: ScriptFault) -> &'static str {
     }
 }
 
-/// What is wrong with a store that is refused, if its text leaves that open.
+/// A sentence that explains why a store was refused; none if the cause is the system's, or the message says all.
 pub(crate) fn store_hint(error: &VaultError) -> Option<&'static str> {
     match error {
         VaultError::NotAStore => Some(
             "Neither file holds a whole store: none was made, `create` was cut off, or a file was changed.",
         ),
         VaultError::Exists => Some(
-            "A file of a store is there already. Use another directory, or `cnc run` with this one.",
+            "A file `A` or `B` is there and not empty. Use another directory, or the store that is there, if one was made.",
         ),
-        VaultError::Damaged(..) => { Some("From this byte on the file is not as it was written.") }
-        VaultError::Full => Some("What the store holds takes more than 1 GiB."),
+        VaultError::Damaged(..) => {
+            Some("The part of the file that begins at this byte is not one of a store.")
+        }
+        VaultError::Full => Some("What the store holds does not fit in 1 GiB."),
         VaultError::Halted | VaultError::Device | VaultError::NoMemory => None,
     }
 }

@@ -37,7 +37,7 @@ pub trait Errors: Write {
     /// only the line is known; and what is wrong there, in a few words.
     fn point(&mut self, line: usize, column: usize, hint: &'static str);
 
-    /// Whether a person reads it, who is told what is wrong in a store that is refused or not verified.
+    /// Whether a person reads it. If so, what is wrong with a store that is refused or not verified is explained.
     fn explains(&self) -> bool;
 
     /// One more instance was verified, of the `done` ones that are finished.

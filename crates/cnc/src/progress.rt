@@ -38,12 +38,14 @@ pub(crate) struct Telling<'a, R> {
     rt: &'a R,
     workers: u8,
     made: Option<Instant>,
-    // The milliseconds from `made` to the first instance that ran.
+    // The milliseconds from `made` to the first instance that ran; before that the greatest number, so that nothing is due.
     first: AtomicU64,
     ran: AtomicU64,
-    // When it looks at the clock: at this one of those that ran, so many after the one before, and these milliseconds after `made`.
+    // The number of the instance at which it looks at the clock next.
     next: AtomicU64,
+    // How many instances are run from one look to the next.
     between: AtomicU64,
+    // The milliseconds from `made` to the last look.
     looked: AtomicU64,
     // The second of the run in which the progress was printed last.
     told: AtomicU64,
@@ -57,7 +59,7 @@ impl<'a, R: Clock + Eprint> Telling<'a, R> {
             rt,
             workers,
             made: Instant::now(rt).ok(),
-            first: AtomicU64::new(0),
+            first: AtomicU64::new(u64::MAX),
             ran: AtomicU64::new(0),
             next: AtomicU64::new(1),
             between: AtomicU64::new(1),
@@ -115,8 +117,9 @@ impl<'a, R: Clock + Eprint + Sync> Probe for Telling<'a, R> {
             done,
         } = counts;
         let workers = self.workers;
-        let seconds = self.told.load(Ordering::Relaxed).max(1);
-        let rate = self.ran.load(Ordering::Relaxed) / seconds;
+        let first = self.first.load(Ordering::Relaxed);
+        let passed = self.looked.load(Ordering::Relaxed).saturating_sub(first);
+        let rate = self.ran.load(Ordering::Relaxed).saturating_mul(1000) / passed.max(1);
         let _ = eprint!(self.rt;
             "\r{done} of {prescribed} steps done, {workers} at a time, {rate} a second\u{1b}[K"
         );
