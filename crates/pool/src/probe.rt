@@ -26,8 +26,8 @@ pub trait Probe: Sync {
     fn enter(&self, instance: Inst) -> Answer
         ensures { result ≡ Stop → may_stop ≡ true };
 
-    /// Is told how much the store held a moment ago, after it answered `Count`. It takes the lock of the store to count, so
-    /// a probe answers so now and then alone. What workers have not committed yet is not among it.
+    /// Called outside the lock, after `enter` returned `Count`, with what the store held a moment ago. What workers have not
+    /// committed yet is not counted. Counting takes the lock of the store, so ask for it only now and then.
     fn counted(&self, _counts: Counts) {}
 }
 

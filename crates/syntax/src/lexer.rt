@@ -10,8 +10,8 @@ use crate::words::reserved_word;
 use crate::{Placed, Token};
 use std::alloc::{AllocError, Global};
 
-// How many bytes a token takes with the blanks around it, in most texts: room is made for that many at once.
-const BYTES_OF_A_TOKEN: usize = 4;
+// At first there is room for one token for each four bytes of the text: for about half of the tokens of most texts.
+const BYTES_FOR_A_TOKEN: usize = 4;
 
 /// The tokens of a text, which is ASCII. The first unknown token is the last one.
 pub fn tokens<'a>(alloc: Global, text: &'a str) -> Result<Vec<Placed<'a>>, AllocError>
@@ -19,7 +19,7 @@ pub fn tokens<'a>(alloc: Global, text: &'a str) -> Result<Vec<Placed<'a>>, Alloc
     ensures { IfOk result (λ tokens. AreTokens 0 text.now (spots_of tokens.items)) }
 {
     let mut tokens = Vec::new(alloc);
-    tokens.reserve(text.len() / BYTES_OF_A_TOKEN)?;
+    tokens.reserve(text.len() / BYTES_FOR_A_TOKEN)?;
     let mut place = 0;
     loop {
         place += leading_blanks(text[place..].as_bytes());
