@@ -11,7 +11,7 @@
 # Measured of the steps: `bench pool`, which says itself what it measures. Measured of oneTBB: tasks that do nothing but count themselves, 4,000 of them spawned by a task
 # each, from the first to the end of all; on 1, 2 and 4 threads, the least of ROUNDS.
 set -eu
-bench=${1:?the program bench}
+bench=$(realpath "${1:?the program bench}")
 tasks=${2:-1000000}
 rounds=${3:-3}
 room=$(mktemp -d)
@@ -61,7 +61,7 @@ CPP
 c++ -O2 -std=c++17 -o "$room/tasks" "$room/tasks.cpp" -ltbb
 
 for ((round = 0; round < rounds; round++)); do
-    "$bench" pool "$tasks"
+    (cd "$room" && "$bench" pool "$tasks")
     for threads in 1 2 4; do
         "$room/tasks" "$tasks" "$threads" >>"$room/$threads.times"
     done

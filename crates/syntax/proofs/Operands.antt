@@ -16,10 +16,6 @@ one_minus_more times tree new box some is rest [] unary e one = absurd (omega (a
 one_minus_more times tree new box some is rest (position ∷ positions) unary e one =
     rest positions (negated position unary) (omega (arith, e)) (subst (IsUnary unary) (sym is) one)
 
-pub no_minus : (times : ℕ) (tree : NamedExpression) → times ≡ 0 → (positions : List Position) (unary : Unary) → length positions ≡ times → IsUnary unary tree → IsUnary (negated_by positions unary) tree
-no_minus times tree none [] unary e one = one
-no_minus times tree none (position ∷ positions) unary e one = absurd (omega (arith, e, none))
-
 -- ---- depths
 
 pub negated_depth : (positions : List Position) (unary : Unary) → unary_depth (negated_by positions unary) ≡ length positions + unary_depth unary

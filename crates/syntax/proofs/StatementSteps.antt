@@ -17,7 +17,7 @@ use Rattle.syntax.specs.Tree.{IsStatement, AreStatements, AreAll}
 use Rattle.syntax.specs.Expected.{Part, reading, writing, Expected, keyword, statements, or_else, run}
 use Rattle.syntax.specs.Front.{front_of}
 use Rattle.syntax.specs.Blocks.{IsAssignment}
-use Rattle.syntax.specs.Parsed.{Goes, Reads, Tells, Stops, named_of}
+use Rattle.syntax.specs.Parsed.{Reads, Tells, Stops, named_of}
 use Rattle.syntax.specs.Statements.{Own, own_pieces, own_limits, is_own, Begins, assignment_expected, choice_expected, repetition_expected, own_expected, IsFirst, IsStatementRead, IsChoiceRead}
 use Rattle.syntax.specs.Statements.{IsConditionRead, IsNestedRead, Second, second_pieces, second_limits, IsSecond, IsSecondRead, NoneBegins, statements_of, StatementsSoFar, AreRead}
 use Rattle.syntax.proofs.Moves.{◌⨟◌, reads_on}
@@ -55,10 +55,6 @@ choice_read {part} {around} {value} {one} {two} {first_tree} {second_tree} {othe
     }
 
 -- ---- what a statement begins with
-
--- where a statement may come, so may this, and then a statement again
-abbrev pub MayBegin : Part → ℕ → List Expected → List Spot → Type 0
-MayBegin part around expected spots = Goes (statements part around ∷ []) (expected ++ statements part around ∷ []) spots spots
 
 -- what is expected of a statement that begins so
 abbrev pub expected_of : Part → ℕ → Beginning → List Expected

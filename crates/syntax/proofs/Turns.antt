@@ -1,9 +1,8 @@
 -- What a token does with a thing that may come: the move of the machine, and what the fillings become.
-use Rattle.std.proofs.Common.{◌≡◌, ◌==◌, ℕ, Bool, true, false, if◌then◌else◌, List, [], ◌∷◌, ◌++◌, Some, None, refl, sym, ap, append_assoc, slice_get, rules, arith}
+use Rattle.std.proofs.Common.{◌≡◌, ◌==◌, ℕ, Bool, true, false, if◌then◌else◌, List, [], ◌∷◌, ◌++◌, Some, None, refl, sym, ap, append_assoc, rules, arith}
 use Rattle.std.proofs.lemmas.List.{append-nil}
 use Rattle.terms.specs.declared.key.TheConstants.{MAX_COMPONENTS}
 use Rattle.syntax.specs.declared.token.Word.{Word}
-use Rattle.syntax.specs.declared.token.Word.TheVariants as kept
 use Rattle.syntax.specs.declared.token.Symbol.{Symbol}
 use Rattle.syntax.specs.declared.token.Symbol.TheVariants as sign
 use Rattle.syntax.specs.Tokens.{Lexeme, name, word, symbol, unknown, Spot}
@@ -42,12 +41,6 @@ pub data Turn (first : Expected) (spot : Spot) (move : Move) : Type 0 where
 
 pub same_sign : (it other : Symbol) → (sign_number it == sign_number other) ≡ true → symbol other ≡ symbol it
 same_sign it other same = ap symbol (sym (same_number it other (search (rules, same))))
-
-abbrev words : List Word
-words = kept.Env ∷ kept.Step ∷ kept.Var ∷ kept.Read ∷ kept.Write ∷ kept.Get ∷ kept.Put ∷ kept.If ∷ kept.Else ∷ kept.For ∷ kept.In ∷ []
-
-word_found : (it : Word) → slice_get words (word_number it) ≡ Some it
-word_found it = grind arith
 
 pub same_word : (it other : Word) → (word_number it == word_number other) ≡ true → word other ≡ word it
 same_word it other same = grind arith
