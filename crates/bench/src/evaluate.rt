@@ -58,54 +58,46 @@ fn made(alloc: Global, checked: &Checked) -> Result<usize, AllocError> {
 
 // write { for b in 0 .. k { a = (a + b); } put [0] = a; }
 fn sum(alloc: Global) -> Result<Checked, AllocError> {
-    let put = put_of(alloc)?;
-    let write = loop_of(alloc, put)?;
-    let read = Block::end();
-    Checked::new(alloc, Vec::new(alloc), 1, Body { read, write })
+    let mut statements = Vec::new(alloc);
+    statements.push(loop_of(alloc)?)?;
+    statements.push(put_of(alloc))?;
+    let body = Body {
+        read: Block::end(alloc),
+        write: Block { statements },
+    };
+    Checked::new(alloc, Vec::new(alloc), 1, body)
 }
 
 // put [0] = a;
-fn put_of(alloc: Global) -> Result<Block, AllocError> {
-    let rest = Box::new(alloc, Block::end())?;
-    Ok(Block {
-        first: Statement::PutItem {
-            collection: ItemCollection(0),
-            components: Components::new(Vec::new(alloc)),
-            value: variable(total()),
-            rest,
-        },
-    })
+fn put_of(alloc: Global) -> Statement {
+    Statement::PutItem {
+        collection: ItemCollection(0),
+        components: Components::new(Vec::new(alloc)),
+        value: variable(total()),
+    }
 }
 
 // for b in 0 .. k { a = (a + b); }
-fn loop_of(alloc: Global, rest: Block) -> Result<Block, AllocError> {
-    let rest = Box::new(alloc, rest)?;
-    let add = add_of(alloc)?;
-    let block = Box::new(alloc, add)?;
-    Ok(Block {
-        first: Statement::For {
-            variable: turn(),
-            from: Expression {
-                node: Node::Number(0),
-            },
-            to: variable(Slot::new(0)),
-            block,
-            rest,
+fn loop_of(alloc: Global) -> Result<Statement, AllocError> {
+    let mut statements = Vec::new(alloc);
+    statements.push(add_of(alloc)?)?;
+    Ok(Statement::For {
+        variable: turn(),
+        from: Expression {
+            node: Node::Number(0),
         },
+        to: variable(Slot::new(0)),
+        block: Block { statements },
     })
 }
 
 // a = (a + b);
-fn add_of(alloc: Global) -> Result<Block, AllocError> {
+fn add_of(alloc: Global) -> Result<Statement, AllocError> {
     let operands = Box::new(alloc, (variable(total()), variable(turn())))?;
-    let rest = Box::new(alloc, Block::end())?;
-    Ok(Block {
-        first: Statement::Assign {
-            variable: total(),
-            value: Expression {
-                node: Node::Operation(Operator::Add, operands),
-            },
-            rest,
+    Ok(Statement::Assign {
+        variable: total(),
+        value: Expression {
+            node: Node::Operation(Operator::Add, operands),
         },
     })
 }

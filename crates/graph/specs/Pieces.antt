@@ -3,7 +3,8 @@ use Rattle.std.specs.Prelude.{◌≡◌, ℕ, zero, suc, Bool, true, false, List
 use Rattle.std.specs.declared.alloc.Global.{Global}
 use Rattle.std.specs.List.{flat_map, zip}
 use Rattle.steptree.specs.Names.{Text}
-use Rattle.steptree.specs.Tree.{Block, Expression, behind}
+use Rattle.steptree.specs.Tree.{Block, Expression}
+use Rattle.steptree.specs.SeenBlocks.{NumberedStatement, stated}
 use Rattle.graph.specs.declared.canonical_text.relations.Kind.{Kind}
 use Rattle.graph.specs.declared.canonical_text.relations.Kind.TheVariants as kind
 use Rattle.graph.specs.declared.canonical_text.words.Words.{Words}
@@ -68,9 +69,10 @@ bounds_text g names from to = expression_text g names from ++ codes " .. " ++ ex
 abbrev pub section_text : Graph → List Text → Text → Block → Text
 section_text g names title block = line 1 title ++ block_text g names 2 block ++ line 1 (codes "}")
 
--- what was added to the text is the first statement of the block: with the others after it, it is the whole block
-abbrev pub WritesFirst : {X E : Type 0} → Result X E → Vec ℕ Global → Vec ℕ Global → Words → ℕ → Block → Type 0
-WritesFirst result old new words level block = OnOk result (new.items ++ in_words words block_text level (behind block) ≡ old.items ++ in_words words block_text level block)
+-- what was added to the text is the statement: with any block after it, it is the block that begins with the statement
+abbrev pub WritesStatement : {X E : Type 0} → Result X E → Vec ℕ Global → Vec ℕ Global → Words → ℕ → NumberedStatement → Type 0
+WritesStatement result old new words level statement =
+    OnOk result ((rest : Block) → new.items ++ in_words words block_text level rest ≡ old.items ++ in_words words block_text level (stated statement rest))
 
 -- the text of an element, if there is one
 abbrev pub where_there : {X : Type 0} → (X → Text) → Option X → Text

@@ -1,5 +1,6 @@
 pub mod Answered
 pub mod Begun
+pub mod Chained
 pub mod Counted
 pub mod Endings
 pub mod Valued

@@ -1,12 +1,13 @@
 ghost use Rattle.std.specs.Prelude.{◌≡◌, ◌-◌, ◌++◌, pos, replicate, Ok, Err, List, ℤ, length, IfSome, IfNone, IfOk, OnOk};
 ghost use Rattle.steptree.specs.declared.expression.Operator.TheVariants.{Add, Subtract, Divide, Remainder};
 ghost use Rattle.steptree.specs.Values.{operated, value_of, values_of};
-ghost use Rattle.steptree.specs.Executed.{operand_of, pair_of, expression_of};
+ghost use Rattle.steptree.specs.Tree.{Number};
+ghost use Rattle.steptree.specs.Executed.{operand_of, pair_of, linked, chained, expression_of};
 ghost use Rattle.steplang.specs.Leaf.{IsDeep, IsLong};
 ghost use Rattle.steplang.specs.FaultsOf.{fault_of};
 ghost use Rattle.steptree.specs.declared.slot.TheConstants.{MOST_NAMES};
 
-use steptree::{Components, Expression, Formula, MOST_NAMES, Node, Operand, Operator, Pair};
+use steptree::{Components, Expression, Formula, Link, MOST_NAMES, Node, Operand, Operator, Pair};
 use terms::{FaultKind, Key, MAX_COMPONENTS};
 
 /// The values of an instance's variables, by slot.
@@ -54,7 +55,7 @@ pub(crate) fn evaluate(formula: &Formula, variables: &Variables) -> Result<i64, 
             let right = evaluate_pair(right, variables)?;
             operate(*operator, left, right)
         }
-        Formula::FirstThen(..) | Formula::SecondThen(..) | Formula::Deep(_) => {
+        Formula::Chain(..) | Formula::Deep(_) => {
             let value = evaluate_long(formula, variables)?;
             Ok(value)
         }
@@ -70,19 +71,41 @@ fn evaluate_long(formula: &Formula, variables: &Variables) -> Result<i64, FaultK
     ensures { result ≡ value_of (expression_of formula.now) variables.now }
 {
     match formula {
-        Formula::FirstThen(operator, inner, left, right, last) => {
-            let left = evaluate_pair(left, variables)?;
-            let left = operate(*inner, left, operand(right, variables))?;
-            operate(*operator, left, operand(last, variables))
-        }
-        Formula::SecondThen(operator, inner, left, right, last) => {
-            let left = operand(left, variables);
-            let right = evaluate_pair(right, variables)?;
-            let left = operate(*inner, left, right)?;
-            operate(*operator, left, operand(last, variables))
-        }
+        Formula::Chain(first, links) => evaluate_chain(first, links, variables),
         Formula::Deep(expression) => evaluate_expression(expression, variables),
         _ => unreachable!(),
+    }
+}
+
+// Evaluates a pair, and what the links make of its value.
+fn evaluate_chain(first: &Pair, links: &[Link], variables: &Variables) -> Result<i64, FaultKind>
+    ensures { result ≡ value_of (chained (pair_of first.now) links.now) variables.now }
+{
+    let mut value = match evaluate_pair(first, variables) {
+        Ok(value) => value,
+        Err(kind) => return Err(kind),
+    };
+    for link in links {
+        match evaluate_link(value, link, variables) {
+            Ok(next) => value = next,
+            Err(kind) => return Err(kind),
+        }
+    }
+    Ok(value)
+}
+
+// Evaluates one more operation, on a value.
+#[inline(always)]
+fn evaluate_link(value: i64, link: &Link, variables: &Variables) -> Result<i64, FaultKind>
+    ensures { result ≡ value_of (linked (Number value) link.now) variables.now }
+{
+    match link {
+        Link::Before(operator, right) => operate(*operator, value, operand(right, variables)),
+        Link::After(operator, left) => operate(*operator, operand(left, variables), value),
+        Link::BeforePair(operator, right) => {
+            let right = evaluate_pair(right, variables)?;
+            operate(*operator, value, right)
+        }
     }
 }
 

@@ -1,10 +1,8 @@
 -- The code of blocks, as instructions are added after it.
-use Rattle.std.proofs.Common.{◌≡◌, ◌≤◌, ℕ, zero, suc, List, [], ◌∷◌, ◌++◌, length, refl, sym, ap, subst, ◌∙◌, arith}
-use Rattle.std.specs.Borrow.{Bor}
-use Rattle.steptree.specs.Tree.{Block, End, Assign, If, For, Get, PutItem, PutTag, block_size, behind}
+use Rattle.std.proofs.Common.{◌≡◌, ℕ, zero, suc, List, [], ◌∷◌, ◌++◌, length, refl, sym, subst}
+use Rattle.steptree.specs.Tree.{Block, End, Assign, If, For, Get, PutItem, PutTag}
 use Rattle.steptree.specs.declared.code.Instruction.{Instruction}
 use Rattle.steptree.specs.Compiled.{Stands, IsCode, Keeps}
-use Rattle.steptree.proofs.Joining.{no_larger}
 
 -- the last of a list stands at the length of the others
 stands_after : (code : List Instruction) (one : Instruction) → Stands (code ++ one ∷ []) (length code) one
@@ -41,25 +39,3 @@ stays old new keeps at (PutItem collection components value rest) stop is =
     (is.0, keeps at _ is.1, stays old new keeps is.0 rest stop is.2)
 stays old new keeps at (PutTag collection components rest) stop is =
     (is.0, keeps at _ is.1, stays old new keeps is.0 rest stop is.2)
-
--- the blocks that begin at the first statements of a block, one after another, and what is left of it
-abbrev pub IsChain : Block → List (Bor Block) → Block → Type 0
-IsChain block [] left = block ≡ left
-IsChain block (first ∷ others) left = (first.now ≡ block) × IsChain (behind block) others left
-
-pub chain_more : (block : Block) (blocks : List (Bor Block)) (last : Bor Block) (left : Block) → IsChain block blocks last.now → behind last.now ≡ left → IsChain block (blocks ++ last ∷ []) left
-chain_more block [] last left chain is = (sym chain, ap behind chain ∙ is)
-chain_more block (first ∷ others) last left chain is = (chain.0, chain_more (behind block) others last left chain.1 is)
-
--- what a chain says of its last block
-pub record EndsIn (block : Block) (blocks : List (Bor Block)) (last : Bor Block) (left : Block) : Type 0 where
-  pub chain : IsChain block blocks last.now
-  pub next : behind last.now ≡ left
-  pub smaller : block_size last.now ≤ block_size block
-
-pub chain_last : (block : Block) (blocks : List (Bor Block)) (last : Bor Block) (left : Block) → IsChain block (blocks ++ last ∷ []) left → EndsIn block blocks last left
-chain_last block [] last left chain =
-    record { chain = sym chain.0; next = ap behind chain.0 ∙ chain.1; smaller = omega (arith, ap block_size chain.0) }
-chain_last block (first ∷ others) last left chain =
-    let inner = chain_last (behind block) others last left chain.1 in
-    record { chain = (chain.0, inner.chain); next = inner.next; smaller = omega (arith, inner.smaller, no_larger block) }

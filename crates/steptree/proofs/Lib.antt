@@ -1,7 +1,8 @@
+mod Chained
 mod Coded
 mod FirstFaults
 mod Follows
-mod Joining
+pub mod Joining
 mod Kept
 mod Lists
 mod Places

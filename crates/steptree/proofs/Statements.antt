@@ -1,53 +1,58 @@
 -- The statements of a block, resolved one after another.
-use Rattle.std.proofs.Common.{◌≡◌, ◌≤◌, List, [], ◌∷◌, ◌++◌, refl, sym, ap, subst, ◌∙◌, arith}
-use Rattle.std.specs.Prelude.{Result, Ok, Err, IfOk, MatchResult}
-use Rattle.steptree.specs.Tree.{Block, NamedBlock, behind, with_rest, joined, block_size}
+use Rattle.std.proofs.Common.{◌≡◌, ◌<◌, ℕ, ◌+◌, List, [], ◌∷◌, ◌++◌, length, drop, get_or, refl, sym, ap, subst, ◌∙◌, arith, append_assoc}
+use Rattle.steptree.specs.declared.block.Statement.TheVariants as statement
 use Rattle.steptree.specs.declared.checker.CheckFault.{CheckFault}
+use Rattle.steptree.specs.Tree.{Block, NamedBlock, End}
+use Rattle.steptree.specs.SeenBlocks.{NumberedStatement, NamedStatement, stated, joined}
 use Rattle.steptree.specs.Nameable.{Nameable}
 use Rattle.steptree.specs.CheckFaults.{block_faults}
 use Rattle.steptree.specs.Names.{Text}
 use Rattle.steptree.specs.Resolved.{IsBlock}
 use Rattle.steptree.specs.Sheet.{KeepsTo}
-use Rattle.steptree.specs.Statements.{Reports, IsFirst, IsFirstOf, IsStatement}
+use Rattle.steptree.specs.Statements.{IsFirst, IsStatement}
 use Rattle.steptree.proofs.FirstFaults.{in_front}
-use Rattle.steptree.proofs.Joining.{joined_last, no_larger}
-use Rattle.steptree.proofs.Lists.{empty_in_front}
+use Rattle.steptree.proofs.Joining.{joined_last, from_index}
+use Rattle.steptree.proofs.Lists.{past, with_none, empty_in_front}
 
--- the result for a statement is the result for the first statement of a block that begins with it
-pub firsts : (names : List Text) (sheet : Nameable) (block : NamedBlock) (statement : NamedBlock → NamedBlock) (rest : NamedBlock) (faults : List CheckFault) (result : Result Block CheckFault)
-    → block ≡ statement rest → behind (statement rest) ≡ rest → block_faults names sheet (statement rest) ≡ faults ++ block_faults names sheet rest
-    → IfOk result (IsStatement names sheet statement) → Reports faults result
-    → MatchResult result (IsFirstOf names sheet block) (IsFirst (block_faults names sheet block))
-firsts names sheet block statement rest faults (Ok first) begins behind_it faults_are is none =
-    let next : behind block ≡ rest = ap behind begins ∙ behind_it in
-    record {
-      resolves = λ others are. subst (λ (b : NamedBlock). IsBlock names sheet b (with_rest first others)) (sym begins)
-          (is.resolves rest others (subst (λ (b : NamedBlock). IsBlock names sheet b others) next are));
-      keeps = is.keeps;
-      no_fault = ap (block_faults names sheet) begins ∙ faults_are ∙ empty_in_front faults (block_faults names sheet rest) none ∙ ap (block_faults names sheet) (sym next);
-    }
-firsts names sheet block statement rest faults (Err fault) begins behind_it faults_are is first =
-    subst (λ (l : List CheckFault). IsFirst l fault) (sym (ap (block_faults names sheet) begins ∙ faults_are)) (in_front faults (block_faults names sheet rest) fault first)
+module _ (names : List Text) (sheet : Nameable) where
+  -- the faults of a block are those of its first statement, and then the others
+  faults_of_first : (first : NamedStatement) (rest : NamedBlock) → block_faults names sheet (stated first rest) ≡ block_faults names sheet (stated first End) ++ block_faults names sheet rest
+  faults_of_first (statement.Assign variable value) rest = grind (arith, append_assoc, with_none)
+  faults_of_first (statement.If condition first second) rest = grind (arith, append_assoc, with_none)
+  faults_of_first (statement.For variable from to block) rest = grind (arith, append_assoc, with_none)
+  faults_of_first (statement.Get variable collection components) rest = grind (arith, append_assoc, with_none)
+  faults_of_first (statement.PutItem collection components value) rest = grind (arith, append_assoc, with_none)
+  faults_of_first (statement.PutTag collection components) rest = grind (arith, append_assoc, with_none)
 
-module _ (names : List Text) (sheet : Nameable) (block : NamedBlock) where
-  -- the statements before those that are left are resolved, and none of them has a fault
-  pub record Resolved (left : NamedBlock) (statements : List Block) : Type 0 where
-    pub resolves : (rest : Block) → IsBlock names sheet left rest → IsBlock names sheet block (joined statements rest)
-    pub keeps : (rest : Block) → KeepsTo sheet rest → KeepsTo sheet (joined statements rest)
-    pub no_fault : block_faults names sheet block ≡ block_faults names sheet left
+  module _ (statements : List NamedStatement) where
+    -- the statements before the index are resolved, and none of them has a fault
+    pub record SoFar (index : ℕ) (resolved : List NumberedStatement) : Type 0 where
+      pub resolves : (rest : Block) → IsBlock names sheet (joined (drop index statements) End) rest → IsBlock names sheet (joined statements End) (joined resolved rest)
+      pub keeps : (rest : Block) → KeepsTo sheet rest → KeepsTo sheet (joined resolved rest)
+      pub no_fault : block_faults names sheet (joined statements End) ≡ block_faults names sheet (joined (drop index statements) End)
 
-  pub none_yet : Resolved block []
-  none_yet = record { resolves = λ rest are. are; keeps = λ rest kept. kept; no_fault = refl }
+    pub none_yet : SoFar 0 []
+    none_yet = record { resolves = λ rest are. are; keeps = λ rest kept. kept; no_fault = refl }
 
-  pub one_more : (left next : NamedBlock) (statements more : List Block) (first : Block) → behind left ≡ next → more ≡ statements ++ first ∷ []
-      → Resolved left statements × (block_size left ≤ block_size block) → IsFirstOf names sheet left first → Resolved next more × (block_size next ≤ block_size block)
-  one_more left next statements more first behind_it pushed so_far is =
-      let last : (rest : Block) → joined statements (with_rest first rest) ≡ joined more rest = λ rest. sym (ap (λ (l : List Block). joined l rest) pushed ∙ joined_last statements first rest) in (
-        record {
-          resolves = λ rest are. subst (IsBlock names sheet block) (last rest)
-              (so_far.0.resolves (with_rest first rest) (is.resolves rest (subst (λ (b : NamedBlock). IsBlock names sheet b rest) (sym behind_it) are)));
-          keeps = λ rest kept. subst (KeepsTo sheet) (last rest) (so_far.0.keeps (with_rest first rest) (is.keeps rest kept));
-          no_fault = so_far.0.no_fault ∙ is.no_fault ∙ ap (block_faults names sheet) behind_it;
-        },
-        omega (arith, no_larger left, ap block_size behind_it, so_far.1),
-      )
+    module _ (index : ℕ) (resolved : List NumberedStatement) (this : NamedStatement) (within : index < length statements) (is : this ≡ get_or statements index this) (so_far : SoFar index resolved) where
+      faults_from : block_faults names sheet (joined statements End) ≡ block_faults names sheet (stated this End) ++ block_faults names sheet (joined (drop (index + 1) statements) End)
+      faults_from = so_far.no_fault ∙ ap (block_faults names sheet) (from_index statements index this within is) ∙ faults_of_first this (joined (drop (index + 1) statements) End)
+
+      pub one_more : (one : NumberedStatement) → IsStatement names sheet (stated this) one → block_faults names sheet (stated this End) ≡ [] → SoFar (index + 1) (resolved ++ one ∷ [])
+      one_more one here none = record {
+        resolves = λ rest are. subst (IsBlock names sheet (joined statements End)) (sym (joined_last resolved one rest))
+            (so_far.resolves (stated one rest) (subst (λ (b : NamedBlock). IsBlock names sheet b (stated one rest)) (sym (from_index statements index this within is))
+            (here.resolves (joined (drop (index + 1) statements) End) rest are)));
+        keeps = λ rest kept. subst (KeepsTo sheet) (sym (joined_last resolved one rest)) (so_far.keeps (stated one rest) (here.keeps rest kept));
+        no_fault = faults_from ∙ empty_in_front (block_faults names sheet (stated this End)) _ none;
+      }
+
+      pub first_here : (fault : CheckFault) → IsFirst (block_faults names sheet (stated this End)) fault → IsFirst (block_faults names sheet (joined statements End)) fault
+      first_here fault first = subst (λ (l : List CheckFault). IsFirst l fault) (sym faults_from) (in_front (block_faults names sheet (stated this End)) _ fault first)
+
+    module _ (index : ℕ) (resolved : List NumberedStatement) (all : index ≡ length statements) (so_far : SoFar index resolved) where
+      pub all_resolved : IsBlock names sheet (joined statements End) (joined resolved End)
+      all_resolved = so_far.resolves End (subst (λ (l : List NamedStatement). IsBlock names sheet (joined l End) End) (sym (past statements index all)) tt)
+
+      pub none_at_fault : block_faults names sheet (joined statements End) ≡ []
+      none_at_fault = so_far.no_fault ∙ ap (λ (l : List NamedStatement). block_faults names sheet (joined l End)) (past statements index all)

@@ -1,7 +1,7 @@
 -- When instructions are the code of a block.
 use Rattle.std.specs.Prelude.{◌≡◌, ℕ, List, Some, slice_get}
 use Rattle.terms.specs.declared.name.ItemCollection.{ItemCollection}
-use Rattle.steptree.specs.Tree.{Expression, Block, End, Assign, If, For, Get, PutItem, PutTag, behind}
+use Rattle.steptree.specs.Tree.{Expression, Block, End, Assign, If, For, Get, PutItem, PutTag}
 use Rattle.steptree.specs.declared.code.Formula.{Formula}
 use Rattle.steptree.specs.declared.code.Instruction.{Instruction}
 use Rattle.steptree.specs.declared.code.Instruction.TheVariants as instruction
@@ -44,7 +44,3 @@ CompilesLoop variable from to block = Compiles (For variable from to block)
 -- the same of a put of an item
 abbrev pub CompilesItemPut : ItemCollection → List Expression → Expression → List Instruction → ℕ → List Instruction → ℕ → Type 0
 CompilesItemPut collection components value = Compiles (PutItem collection components value)
-
--- at `at` the code does the block, if its statements after the first are at `next`
-abbrev pub CompilesFirst : Block → List Instruction → ℕ → List Instruction → ℕ → Type 0
-CompilesFirst block old next new at = (stop : ℕ) → IsCode old next (behind block) stop → IsCode new at block stop

@@ -7,6 +7,8 @@ use Rattle.steptree.specs.declared.expression.Operator.TheVariants as operator
 use Rattle.steptree.specs.declared.code.Operand.{Operand}
 use Rattle.steptree.specs.declared.code.Operand.TheVariants as operand
 use Rattle.steptree.specs.declared.code.Pair.{Pair}
+use Rattle.steptree.specs.declared.code.Link.{Link}
+use Rattle.steptree.specs.declared.code.Link.TheVariants as link
 use Rattle.steptree.specs.declared.code.Formula.{Formula}
 use Rattle.steptree.specs.declared.code.Formula.TheVariants as formula
 use Rattle.steptree.specs.declared.code.Instruction.{Instruction}
@@ -28,6 +30,16 @@ operand_of (operand.Variable slot) = Variable slot
 abbrev pub pair_of : Pair → Expression
 pair_of pair = Operation pair.operator (operand_of pair.left) (operand_of pair.right)
 
+-- what a link makes of the expression before it, and several one after another
+abbrev pub linked : Expression → Link → Expression
+linked before (link.Before between right) = Operation between before (operand_of right)
+linked before (link.After between left) = Operation between (operand_of left) before
+linked before (link.BeforePair between right) = Operation between before (pair_of right)
+
+abbrev pub chained : Expression → List Link → Expression
+chained before [] = before
+chained before (first ∷ others) = chained (linked before first) others
+
 -- the expression that a formula computes
 abbrev pub expression_of : Formula → Expression
 expression_of (formula.Leaf leaf) = operand_of leaf
@@ -38,9 +50,8 @@ expression_of (formula.WithNumber between left right) = Operation between (Varia
 expression_of (formula.Two pair) = pair_of pair
 expression_of (formula.First between left right) = Operation between (pair_of left) (operand_of right)
 expression_of (formula.Second between left right) = Operation between (operand_of left) (pair_of right)
-expression_of (formula.FirstThen between inner left right last) = Operation between (Operation inner (pair_of left) (operand_of right)) (operand_of last)
-expression_of (formula.SecondThen between inner left right last) = Operation between (Operation inner (operand_of left) (pair_of right)) (operand_of last)
 expression_of (formula.Both between left right) = Operation between (pair_of left) (pair_of right)
+expression_of (formula.Chain first links) = chained (pair_of first) links.items
 expression_of (formula.Deep expression) = expression
 
 -- what comes of a place, with these loops open, the innermost first

@@ -1,3 +1,4 @@
+pub mod BlocksFall
 pub mod Bodies
 pub mod CheckFaults
 pub mod CodesOfBlocks

@@ -1,14 +1,34 @@
 -- A block is seen as its tree.
+use Rattle.std.specs.Prelude.{ℕ, List, [], ◌∷◌}
+use Rattle.std.specs.Global.{Vec}
+use Rattle.terms.specs.declared.name.ItemCollection.{ItemCollection}
+use Rattle.terms.specs.declared.name.TagCollection.{TagCollection}
 use Rattle.steptree.specs.declared.block.Statement.{Statement}
 use Rattle.steptree.specs.declared.block.Statement.TheVariants as statement
-use Rattle.steptree.specs.Tree.{BlockTree, End, Assign, If, For, Get, PutItem, PutTag}
+use Rattle.steptree.specs.declared.step.Name.{Name}
+use Rattle.steptree.specs.Tree.{Expression, NamedExpression, BlockTree, End, Assign, If, For, Get, PutItem, PutTag}
 
--- the boxes inside it already hold trees
-abbrev pub block_seen : {V I T C : Type 0} → Statement V I T C → BlockTree V I T C
-block_seen statement.End = End
-block_seen (statement.Assign variable value rest) = Assign variable value rest.value
-block_seen (statement.If condition first second rest) = If condition first.value second.value rest.value
-block_seen (statement.For variable from to block rest) = For variable from to block.value rest.value
-block_seen (statement.Get variable collection components rest) = Get variable collection components rest.value
-block_seen (statement.PutItem collection components value rest) = PutItem collection components value rest.value
-block_seen (statement.PutTag collection components rest) = PutTag collection components rest.value
+-- a statement with slots and numbers, and one with names
+abbrev pub NumberedStatement : Type 0
+NumberedStatement = Statement ℕ ItemCollection TagCollection (List Expression)
+
+abbrev pub NamedStatement : Type 0
+NamedStatement = Statement Name Name Name (Vec NamedExpression)
+
+module _ {V I T C : Type 0} where
+  -- a statement, and the statements after it; the blocks inside it are trees already
+  abbrev pub stated : Statement V I T C → BlockTree V I T C → BlockTree V I T C
+  stated (statement.Assign variable value) rest = Assign variable value rest
+  stated (statement.If condition first second) rest = If condition first second rest
+  stated (statement.For variable from to block) rest = For variable from to block rest
+  stated (statement.Get variable collection components) rest = Get variable collection components rest
+  stated (statement.PutItem collection components value) rest = PutItem collection components value rest
+  stated (statement.PutTag collection components) rest = PutTag collection components rest
+
+  -- statements one after another, and a block after them
+  abbrev pub joined : List (Statement V I T C) → BlockTree V I T C → BlockTree V I T C
+  joined [] rest = rest
+  joined (first ∷ others) rest = stated first (joined others rest)
+
+  abbrev pub block_seen : List (Statement V I T C) → BlockTree V I T C
+  block_seen statements = joined statements End

@@ -1,6 +1,7 @@
--- The statements of a block one by one: each as a block that ends after it.
+-- The statements of a block one by one.
 use Rattle.std.specs.Prelude.{◌≡◌, ◌⊎◌, ◌++◌, Bool, List, [], map, Some, Result, MatchResult, slice_get}
-use Rattle.steptree.specs.Tree.{Block, NamedBlock, NamedExpression, Assign, behind, with_rest}
+use Rattle.steptree.specs.Tree.{Block, NamedBlock, NamedExpression, Assign}
+use Rattle.steptree.specs.SeenBlocks.{NumberedStatement, stated}
 use Rattle.steptree.specs.declared.checker.CheckError.{CheckError}
 use Rattle.steptree.specs.declared.checker.CheckError.TheVariants.{UndeclaredRead, UndeclaredPut}
 use Rattle.steptree.specs.declared.checker.CheckFault.{CheckFault}
@@ -54,21 +55,11 @@ ReportsItemPut names sheet item components value = Reports (key_faults names she
 abbrev pub ReportsTagPut : {X : Type 0} → List Text → Nameable → Name → List NamedExpression → Result X CheckFault → Type 0
 ReportsTagPut names sheet tag components = Reports (key_faults names sheet.tags sheet.tag_puts UndeclaredPut tag components)
 
--- the first statement of a block is the statement with names, whatever follows the two, and the sheet allows it
-pub record IsStatement (names : List Text) (sheet : Nameable) (statement : NamedBlock → NamedBlock) (first : Block) : Type 0 where
-  pub resolves : (block : NamedBlock) (rest : Block) → IsBlock names sheet block rest → IsBlock names sheet (statement block) (with_rest first rest)
-  pub keeps : (rest : Block) → KeepsTo sheet rest → KeepsTo sheet (with_rest first rest)
+-- the statement is the one with names, whatever follows the two, and the sheet allows it
+pub record IsStatement (names : List Text) (sheet : Nameable) (named : NamedBlock → NamedBlock) (statement : NumberedStatement) : Type 0 where
+  pub resolves : (block : NamedBlock) (rest : Block) → IsBlock names sheet block rest → IsBlock names sheet (named block) (stated statement rest)
+  pub keeps : (rest : Block) → KeepsTo sheet rest → KeepsTo sheet (stated statement rest)
 
--- the first statement of a block is this assignment, and any sheet allows it
-abbrev pub IsAssignment : List Text → Name → NamedExpression → Block → Type 0
-IsAssignment names variable value first = (sheet : Nameable) → IsStatement names sheet (Assign variable value) first
-
--- the first statement of a block is the first statement of a block with names, and has no fault
-pub record IsFirstOf (names : List Text) (sheet : Nameable) (block : NamedBlock) (first : Block) : Type 0 where
-  pub resolves : (rest : Block) → IsBlock names sheet (behind block) rest → IsBlock names sheet block (with_rest first rest)
-  pub keeps : (rest : Block) → KeepsTo sheet rest → KeepsTo sheet (with_rest first rest)
-  pub no_fault : block_faults names sheet block ≡ block_faults names sheet (behind block)
-
--- if there is a value, then it is the first statement of the block, without a fault; otherwise the error is the block's first fault, or memory was refused
-abbrev pub ResolvesFirst : List Text → Nameable → NamedBlock → Result Block CheckFault → Type 0
-ResolvesFirst names sheet block result = MatchResult result (IsFirstOf names sheet block) (IsFirst (block_faults names sheet block))
+-- the statement is this assignment, and any sheet allows it
+abbrev pub IsAssignment : List Text → Name → NamedExpression → NumberedStatement → Type 0
+IsAssignment names variable value statement = (sheet : Nameable) → IsStatement names sheet (Assign variable value) statement

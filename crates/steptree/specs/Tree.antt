@@ -1,5 +1,5 @@
 -- Expressions and blocks as trees, wherever the boxes that hold their parts lie in memory: with slots and numbers, or with names.
-use Rattle.std.specs.Prelude.{◌≡◌, ◌<◌, ◌+◌, ℕ, suc, ℤ, List, [], ◌∷◌}
+use Rattle.std.specs.Prelude.{◌+◌, ℕ, suc, ℤ, List}
 use Rattle.std.specs.Global.{Vec}
 use Rattle.terms.specs.declared.name.ItemCollection.{ItemCollection}
 use Rattle.terms.specs.declared.name.TagCollection.{TagCollection}
@@ -59,32 +59,3 @@ module _ {V I T C : Type 0} where
   block_size (Get variable collection components rest) = suc (block_size rest)
   block_size (PutItem collection components value rest) = suc (block_size rest)
   block_size (PutTag collection components rest) = suc (block_size rest)
-
-  -- the statements after the first
-  abbrev pub behind : BlockTree V I T C → BlockTree V I T C
-  behind End = End
-  behind (Assign variable value rest) = rest
-  behind (If condition first second rest) = rest
-  behind (For variable from to block rest) = rest
-  behind (Get variable collection components rest) = rest
-  behind (PutItem collection components value rest) = rest
-  behind (PutTag collection components rest) = rest
-
-  -- this is the block without its first statement, and is smaller
-  abbrev pub IsRest : BlockTree V I T C → BlockTree V I T C → Type 0
-  IsRest block rest = (rest ≡ behind block) × (block_size rest < block_size block)
-
-  -- the first statement, with these after it
-  abbrev pub with_rest : BlockTree V I T C → BlockTree V I T C → BlockTree V I T C
-  with_rest End rest = rest
-  with_rest (Assign variable value other) rest = Assign variable value rest
-  with_rest (If condition first second other) rest = If condition first second rest
-  with_rest (For variable from to block other) rest = For variable from to block rest
-  with_rest (Get variable collection components other) rest = Get variable collection components rest
-  with_rest (PutItem collection components value other) rest = PutItem collection components value rest
-  with_rest (PutTag collection components other) rest = PutTag collection components rest
-
-  -- the first statements of these blocks, one after another, with a block after them
-  abbrev pub joined : List (BlockTree V I T C) → BlockTree V I T C → BlockTree V I T C
-  joined [] block = block
-  joined (first ∷ others) block = with_rest first (joined others block)

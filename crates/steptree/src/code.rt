@@ -16,6 +16,17 @@ pub struct Pair {
     pub right: Operand,
 }
 
+/// What is done with a value: one more operation.
+#[derive(Clone, Copy, Debug)]
+pub enum Link {
+    /// The value is the left operand.
+    Before(Operator, Operand),
+    /// The value is the right operand.
+    After(Operator, Operand),
+    /// The value is the left operand, and a pair the right one.
+    BeforePair(Operator, Pair),
+}
+
 /// An expression in the form in which it is evaluated.
 pub enum Formula {
     /// A number or a variable.
@@ -34,12 +45,10 @@ pub enum Formula {
     First(Operator, Pair, Operand),
     /// An operation whose right operand is a pair.
     Second(Operator, Operand, Pair),
-    /// An operation whose left operand is a `First`: first its own operator, then that of the `First`.
-    FirstThen(Operator, Operator, Pair, Operand, Operand),
-    /// An operation whose left operand is a `Second`: first its own operator, then that of the `Second`.
-    SecondThen(Operator, Operator, Operand, Pair, Operand),
     /// An operation on two pairs.
     Both(Operator, Pair, Pair),
+    /// A pair, and links one after another.
+    Chain(Pair, Vec<Link>),
     /// Any other expression.
     Deep(Expression),
 }
@@ -56,9 +65,8 @@ impl Drop for Formula {
             Formula::Two(_) => {}
             Formula::First(_, _, _) => {}
             Formula::Second(_, _, _) => {}
-            Formula::FirstThen(_, _, _, _, _) => {}
-            Formula::SecondThen(_, _, _, _, _) => {}
             Formula::Both(_, _, _) => {}
+            Formula::Chain(_, _) => {}
             Formula::Deep(_) => {}
         }
     }

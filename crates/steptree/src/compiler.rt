@@ -4,7 +4,8 @@
 ghost use Rattle.std.specs.Prelude.{◌≡◌, IfOk, MatchOption};
 ghost use Rattle.steptree.specs.Tree as tree;
 ghost use Rattle.steptree.specs.Executed.{Performs};
-ghost use Rattle.steptree.specs.Compiled.{Compiles, CompilesFirst, CompilesItemPut, CompilesLoop, IsCode, Keeps, Stands};
+ghost use Rattle.steptree.specs.Compiled.{Compiles, CompilesItemPut, CompilesLoop, IsCode, Keeps, Stands};
+ghost use Rattle.steptree.specs.SeenBlocks.{stated};
 
 mod formulas;
 
@@ -38,67 +39,52 @@ fn compile_block(
     ensures code { IfOk result (λ at. IsCode code.new.items at block.now stop) }
     ensures keeps { IfOk result (λ at. Keeps code.old.items code.new.items) }
 {
-    let mut blocks = Vec::new(alloc);
-    let mut left = block;
-    while let Some(rest) = left.rest() {
-        blocks.reserve(1)?;
-        blocks.push_reserved(left);
-        left = rest;
-    }
     let mut at = stop;
-    while let Some(last) = blocks.pop() {
-        at = compile_first(alloc, code, last, at)?;
+    let mut left = block.statements.len();
+    while left > 0 {
+        left -= 1;
+        at = compile_statement(alloc, code, &block.statements[left], at)?;
     }
     Ok(at)
 }
 
-// Adds the code of the first statement of a block, whose other statements have their code at `next`.
+// Adds the code of a statement, whose block goes on at `next`.
 #[cycle(compile)]
-fn compile_first(
+fn compile_statement(
     alloc: Global,
     code: &mut Vec<Instruction>,
-    block: &Block,
+    statement: &Statement,
     next: usize,
 ) -> Result<usize, AllocError>
-    ensures code { IfOk result (CompilesFirst block.now code.old.items next code.new.items) }
+    ensures code { IfOk result (Compiles (stated statement.now) code.old.items next code.new.items) }
     ensures keeps { IfOk result (λ at. Keeps code.old.items code.new.items) }
 {
-    match &block.first {
-        Statement::End => Ok(next),
-        Statement::Assign {
-            variable,
-            value,
-            ..
-        } => assign(alloc, code, *variable, value, next),
+    match statement {
+        Statement::Assign { variable, value } => assign(alloc, code, *variable, value, next),
         Statement::If {
             condition,
             first,
             second,
-            ..
         } => choose(alloc, code, condition, first, second, next),
         Statement::For {
             variable,
             from,
             to,
             block,
-            ..
         } => repeat(alloc, code, *variable, from, to, block, next),
         Statement::Get {
             variable,
             collection,
             components,
-            ..
         } => get(alloc, code, *variable, *collection, components, next),
         Statement::PutItem {
             collection,
             components,
             value,
-            ..
         } => put_item(alloc, code, *collection, components, value, next),
         Statement::PutTag {
             collection,
             components,
-            ..
         } => put_tag(alloc, code, *collection, components, next),
     }
 }

@@ -21,7 +21,7 @@ pub use block::{Block, Statement};
 pub use body::{BUDGET, Body};
 pub use checked::Checked;
 pub use checker::{CheckError, CheckFault, check};
-pub use code::{Code, Formula, Instruction, Loop, Operand, Pair};
+pub use code::{Code, Formula, Instruction, Link, Loop, Operand, Pair};
 pub use components::Components;
 pub use expression::{Expression, Node, Operator};
 pub use laws::{
@@ -29,4 +29,4 @@ pub use laws::{
 };
 pub use sheet::{Declared, MOST_COLLECTIONS, Sheet};
 pub use slot::{MOST_NAMES, Slot};
-pub use step::{Name, NamedBlock, NamedExpression, Step};
+pub use step::{Name, NamedBlock, NamedExpression, NamedStatement, Step};

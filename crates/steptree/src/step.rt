@@ -1,4 +1,4 @@
-use crate::{Block, Expression};
+use crate::{Block, Expression, Statement};
 
 /// A name in a text, and the position of its first byte there.
 #[derive(Clone, Copy, Debug)]
@@ -12,6 +12,9 @@ pub type NamedExpression<'a> = Expression<Name<'a>>;
 
 /// The statements of a block with names.
 pub type NamedBlock<'a> = Block<Name<'a>, Name<'a>, Name<'a>, Vec<NamedExpression<'a>>>;
+
+/// A statement with names.
+pub type NamedStatement<'a> = Statement<Name<'a>, Name<'a>, Name<'a>, Vec<NamedExpression<'a>>>;
 
 /// A step as it is written in its text.
 pub struct Step<'a> {

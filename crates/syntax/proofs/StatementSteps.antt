@@ -3,7 +3,9 @@ use Rattle.std.proofs.Common.{◌≡◌, ℕ, List, [], ◌∷◌, ◌++◌, dro
 use Rattle.std.specs.List.{flat_map}
 use Rattle.std.proofs.lemmas.List.{append-nil}
 use Rattle.steptree.specs.declared.step.Name.{Name}
-use Rattle.steptree.specs.Tree.{NamedBlock, NamedExpression, joined}
+use Rattle.steptree.specs.Tree.{NamedBlock, NamedExpression}
+use Rattle.steptree.specs.SeenBlocks.{NamedStatement, joined}
+use Rattle.steptree.specs.declared.block.Statement.TheVariants as statement
 use Rattle.steptree.specs.Tree as block
 use Rattle.syntax.specs.declared.part.Beginning.{Beginning}
 use Rattle.syntax.specs.declared.part.Beginning.TheVariants as beginning
@@ -32,17 +34,17 @@ pub behind_put : (put : Put) → plain (word kept.Put) ∷ drop 1 (put_pieces pu
 behind_put put = grind arith
 
 -- a choice, with a second block or none
-pub choice_read : {part : Part} {around : ℕ} {value : NamedExpression} {one two first_tree second_tree other : NamedBlock} {before middle three four after : List Spot} → first_tree ≡ one → second_tree ≡ two
+pub choice_read : {part : Part} {around : ℕ} {value : NamedExpression} {one two : NamedBlock} {before middle three four after : List Spot}
     → Reads (keyword kept.If ∷ []) [] (a_word kept.If) before middle → IsConditionRead value middle three
-    → IsNestedRead part around one three four → IsSecondRead part around two four after → IsChoiceRead part around (block.If value first_tree second_tree other) before after
-choice_read {part} {around} {value} {one} {two} {first_tree} {second_tree} {other} {before} {middle} {three} {four} {after} one_is two_is begins condition first last = by last.second last.reads last.is last.within
+    → IsNestedRead part around one three four → IsSecondRead part around two four after → IsChoiceRead part around (statement.If value one two) before after
+choice_read {part} {around} {value} {one} {two} {before} {middle} {three} {four} {after} begins condition first last = by last.second last.reads last.is last.within
   where
     by : (second : Second part) → Reads (or_else part around ∷ []) [] (second_pieces part second) four after → IsSecond part second two → second_limits part around second ≡ []
-        → IsChoiceRead part around (block.If value first_tree second_tree other) before after
+        → IsChoiceRead part around (statement.If value one two) before after
     by None reads is none = record {
       statement = if_alone condition.expr first.position first.block;
       reads = simp append-nil at (begins ⨟ condition.reads ⨟ first.reads ⨟ reads);
-      is = λ rest. rw (one_is, two_is) (condition.is, first.are, is, refl);
+      is = λ rest. (condition.is, first.are, is, refl);
       within = rw condition.within first.within;
     }
     by (Some second) reads is none = record {
@@ -50,7 +52,7 @@ choice_read {part} {around} {value} {one} {two} {first_tree} {second_tree} {othe
       reads = subst (λ pieces. Reads (choice_expected part around) [] pieces before after)
           (sym (append_assoc (condition_pieces condition.expr ++ in_braces_at first.position (statements_pieces (own_pieces part) first.block)) (a_word kept.Else)
           (in_braces_at second.0 (statements_pieces (own_pieces part) second.1)))) (begins ⨟ condition.reads ⨟ first.reads ⨟ reads);
-      is = λ rest. rw (one_is, two_is) (condition.is, first.are, is, refl);
+      is = λ rest. (condition.is, first.are, is, refl);
       within = rw (condition.within, first.within) none;
     }
 
@@ -68,7 +70,7 @@ same_run : (part : Part) (around : ℕ) (it : Beginning) (behind : List Expected
     → run (statements part around ∷ behind) before ≡ run (expected_of part around it ++ (statements part around ∷ behind)) before
 same_run part around it behind before begins = grind arith
 
-pub one_statement : {part : Part} {around : ℕ} {tree : NamedBlock} {before after : List Spot} (it : Beginning) → Begins part (front_of before).0 it
+pub one_statement : {part : Part} {around : ℕ} {tree : NamedStatement} {before after : List Spot} (it : Beginning) → Begins part (front_of before).0 it
     → IsStatementRead part around (expected_of part around it) [] tree before after → IsStatementRead part around (statements part around ∷ []) (statements part around ∷ []) tree before after
 one_statement it begins read = grind arith
 
@@ -79,7 +81,7 @@ statement_stops part around it before after cause begins stops behind =
 
 -- ---- statements one after another
 
-pub next_statement : (part : Part) (around : ℕ) (start now after : List Spot) (trees : List NamedBlock) (tree : NamedBlock) → StatementsSoFar part around start now trees
+pub next_statement : (part : Part) (around : ℕ) (start now after : List Spot) (trees : List NamedStatement) (tree : NamedStatement) → StatementsSoFar part around start now trees
     → IsStatementRead part around (statements part around ∷ []) (statements part around ∷ []) tree now after → StatementsSoFar part around start after (trees ++ tree ∷ [])
 next_statement part around start now after trees tree so_far one = record {
   read = so_far.read ++ one.statement ∷ [];
@@ -107,12 +109,12 @@ statement_weaker : (part : Part) (statement : Statement (Own part)) (tree : Name
     → IsStatement (is_own part) statement tree P → IsStatement (is_own part) statement tree Q
 statement_weaker part statement tree P Q weaker is = grind (arith, own_weaker)
 
-are_joined : (part : Part) (read : List (Statement (Own part))) (trees : List NamedBlock) → AreAll (IsFirst part) read trees → AreStatements (is_own part) (statements_of read) (joined trees block.End)
+are_joined : (part : Part) (read : List (Statement (Own part))) (trees : List NamedStatement) → AreAll (IsFirst part) read trees → AreStatements (is_own part) (statements_of read) (joined trees block.End)
 are_joined part [] trees are = grind arith
 are_joined part (first ∷ read) [] are = absurd are
 are_joined part (first ∷ read) (tree ∷ trees) are = statement_weaker part first _ (λ other. other ≡ joined trees block.End) (AreStatements (is_own part) (statements_of read))
     (λ other same. rw same (are_joined part read trees are.1)) (are.0 (joined trees block.End))
 
-pub all_statements : (part : Part) (around : ℕ) (start now after : List Spot) (trees : List NamedBlock) → StatementsSoFar part around start now trees → NoneBegins part around now after
+pub all_statements : (part : Part) (around : ℕ) (start now after : List Spot) (trees : List NamedStatement) → StatementsSoFar part around start now trees → NoneBegins part around now after
     → AreRead part around (joined trees block.End) start after
 all_statements part around start now after trees so_far none = grind (arith, all_limits, all_pieces, are_joined)

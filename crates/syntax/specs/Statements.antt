@@ -1,7 +1,8 @@
 -- Blocks that are read, statement by statement.
 use Rattle.std.specs.Prelude.{◌≡◌, ℕ, suc, List, [], ◌∷◌, ◌++◌, Option, Some, None, MatchOption}
 use Rattle.std.specs.List.{flat_map}
-use Rattle.steptree.specs.Tree.{NamedExpression, NamedBlock, End, with_rest}
+use Rattle.steptree.specs.Tree.{NamedExpression, NamedBlock, End}
+use Rattle.steptree.specs.SeenBlocks.{NamedStatement, stated}
 use Rattle.syntax.specs.declared.limits.TheConstants.{MOST_BRACES}
 use Rattle.syntax.specs.declared.part.Part.{Part as Told}
 use Rattle.syntax.specs.declared.part.Part.TheVariants as told
@@ -88,28 +89,28 @@ own_expected part = keyword (own_word part) ∷ own_rest part
 abbrev pub assignment_expected : List Expected
 assignment_expected = a_name ∷ assignment_rest
 
--- the first statement of the tree is this one, whatever follows it
-abbrev pub IsFirst : (part : Part) → Statement (Own part) → NamedBlock → Type 0
-IsFirst part statement tree = (rest : NamedBlock) → IsStatement (is_own part) statement (with_rest tree rest) (λ other. other ≡ rest)
+-- the statement of the tree is this one, whatever follows it
+abbrev pub IsFirst : (part : Part) → Statement (Own part) → NamedStatement → Type 0
+IsFirst part statement tree = (rest : NamedBlock) → IsStatement (is_own part) statement (stated tree rest) (λ other. other ≡ rest)
 
 -- one statement, with `around` braces around it
-pub record IsStatementRead (part : Part) (around : ℕ) (expected more : List Expected) (tree : NamedBlock) (before after : List Spot) : Type 0 where
+pub record IsStatementRead (part : Part) (around : ℕ) (expected more : List Expected) (tree : NamedStatement) (before after : List Spot) : Type 0 where
   pub statement : Statement (Own part)
   pub reads : Reads expected more (statement_pieces (own_pieces part) statement) before after
   pub is : IsFirst part statement tree
   pub within : statement_limits (own_limits part) around statement ≡ []
 
 -- an assignment, which each part has, a statement that only this part has, a choice and a repetition
-abbrev pub IsAssignmentRead : NamedBlock → List Spot → List Spot → Type 0
+abbrev pub IsAssignmentRead : NamedStatement → List Spot → List Spot → Type 0
 IsAssignmentRead tree before after = (part : Part) (around : ℕ) → IsStatementRead part around assignment_expected [] tree before after
 
-abbrev pub IsOwnRead : Part → NamedBlock → List Spot → List Spot → Type 0
+abbrev pub IsOwnRead : Part → NamedStatement → List Spot → List Spot → Type 0
 IsOwnRead part tree before after = (around : ℕ) → IsStatementRead part around (own_expected part) [] tree before after
 
-abbrev pub IsChoiceRead : Part → ℕ → NamedBlock → List Spot → List Spot → Type 0
+abbrev pub IsChoiceRead : Part → ℕ → NamedStatement → List Spot → List Spot → Type 0
 IsChoiceRead part around = IsStatementRead part around (choice_expected part around) []
 
-abbrev pub IsRepetitionRead : Part → ℕ → NamedBlock → List Spot → List Spot → Type 0
+abbrev pub IsRepetitionRead : Part → ℕ → NamedStatement → List Spot → List Spot → Type 0
 IsRepetitionRead part around = IsStatementRead part around (repetition_expected part around) []
 
 -- no statement begins here
@@ -118,7 +119,7 @@ pub record NoneBegins (part : Part) (around : ℕ) (before after : List Spot) : 
   pub goes : Goes (statements part around ∷ []) [] before after
 
 -- one statement of a block, if one begins here
-abbrev pub IsStatementOrNone : Part → ℕ → Option NamedBlock → List Spot → List Spot → Type 0
+abbrev pub IsStatementOrNone : Part → ℕ → Option NamedStatement → List Spot → List Spot → Type 0
 IsStatementOrNone part around found before after = MatchOption found (NoneBegins part around before after)
     (λ tree. IsStatementRead part around (statements part around ∷ []) (statements part around ∷ []) tree before after)
 
@@ -182,7 +183,7 @@ statements_of [] = no_more
 statements_of (first ∷ more) = and_then first (statements_of more)
 
 -- before the next statement, these are read
-pub record StatementsSoFar (part : Part) (around : ℕ) (start now : List Spot) (trees : List NamedBlock) : Type 0 where
+pub record StatementsSoFar (part : Part) (around : ℕ) (start now : List Spot) (trees : List NamedStatement) : Type 0 where
   pub read : List (Statement (Own part))
   pub reads : Reads (statements part around ∷ []) (statements part around ∷ []) (flat_map (statement_pieces (own_pieces part)) read) start now
   pub are : AreAll (IsFirst part) read trees

@@ -13,10 +13,10 @@ use crate::part::{Beginning, Part};
 use crate::stop::Stop;
 use crate::{MOST_BRACES, Symbol, Token, Word};
 use std::alloc::Global;
-use steptree::{Block, NamedBlock, NamedExpression, Statement};
+use steptree::{Block, NamedBlock, NamedExpression, NamedStatement, Statement};
 
 // An assignment.
-fn assigned<'a>(alloc: Global, cursor: &mut Cursor<'_, 'a>) -> Result<NamedBlock<'a>, Stop>
+fn assigned<'a>(alloc: Global, cursor: &mut Cursor<'_, 'a>) -> Result<NamedStatement<'a>, Stop>
     ensures reads { IfOk result (λ tree. IsAssignmentRead tree (left cursor.old) (left cursor.new)) }
     ensures fewer { OnOk result (length (left cursor.new) < length (left cursor.old)) }
     ensures stops { IfErr result (Stops assignment_expected (left cursor.old) (left cursor.new)) }
@@ -26,7 +26,11 @@ fn assigned<'a>(alloc: Global, cursor: &mut Cursor<'_, 'a>) -> Result<NamedBlock
 }
 
 // A statement that only this part has.
-fn own<'a>(alloc: Global, cursor: &mut Cursor<'_, 'a>, part: Part) -> Result<NamedBlock<'a>, Stop>
+fn own<'a>(
+    alloc: Global,
+    cursor: &mut Cursor<'_, 'a>,
+    part: Part,
+) -> Result<NamedStatement<'a>, Stop>
     ensures reads { IfOk result (λ tree. IsOwnRead (part_of part) tree (left cursor.old) (left cursor.new)) }
     ensures fewer { OnOk result (length (left cursor.new) < length (left cursor.old)) }
     ensures stops { IfErr result (Stops (own_expected (part_of part)) (left cursor.old) (left cursor.new)) }
@@ -106,7 +110,7 @@ fn second<'a>(
     ensures stops { IfErr result (Stops (or_else (part_of part) around ∷ []) (left cursor.old) (left cursor.new)) }
 {
     if !cursor.takes_word(Word::Else) {
-        return Ok(Block::end());
+        return Ok(Block::end(alloc));
     }
     let block = nested(alloc, cursor, part, around)?;
     Ok(block)
@@ -119,7 +123,7 @@ fn choice<'a>(
     cursor: &mut Cursor<'_, 'a>,
     part: Part,
     around: usize,
-) -> Result<NamedBlock<'a>, Stop>
+) -> Result<NamedStatement<'a>, Stop>
     ensures reads { IfOk result (λ tree. IsChoiceRead (part_of part) around tree (left cursor.old) (left cursor.new)) }
     ensures fewer { OnOk result (length (left cursor.new) < length (left cursor.old)) }
     ensures stops { IfErr result (Stops (choice_expected (part_of part) around) (left cursor.old) (left cursor.new)) }
@@ -128,16 +132,10 @@ fn choice<'a>(
     let condition = condition(alloc, cursor)?;
     let first = nested(alloc, cursor, part, around)?;
     let second = second(alloc, cursor, part, around)?;
-    let first = Box::new(alloc, first)?;
-    let second = Box::new(alloc, second)?;
-    let rest = Box::new(alloc, Block::end())?;
-    Ok(Block {
-        first: Statement::If {
-            condition,
-            first,
-            second,
-            rest,
-        },
+    Ok(Statement::If {
+        condition,
+        first,
+        second,
     })
 }
 
@@ -148,7 +146,7 @@ fn repetition<'a>(
     cursor: &mut Cursor<'_, 'a>,
     part: Part,
     around: usize,
-) -> Result<NamedBlock<'a>, Stop>
+) -> Result<NamedStatement<'a>, Stop>
     ensures reads { IfOk result (λ tree. IsRepetitionRead (part_of part) around tree (left cursor.old) (left cursor.new)) }
     ensures fewer { OnOk result (length (left cursor.new) < length (left cursor.old)) }
     ensures stops { IfErr result (Stops (repetition_expected (part_of part) around) (left cursor.old) (left cursor.new)) }
@@ -160,47 +158,42 @@ fn repetition<'a>(
     cursor.sign(Symbol::DoubleDot)?;
     let to = value(alloc, cursor)?;
     let block = nested(alloc, cursor, part, around)?;
-    let block = Box::new(alloc, block)?;
-    let rest = Box::new(alloc, Block::end())?;
-    Ok(Block {
-        first: Statement::For {
-            variable,
-            from,
-            to,
-            block,
-            rest,
-        },
+    Ok(Statement::For {
+        variable,
+        from,
+        to,
+        block,
     })
 }
 
-// One statement, if one begins here, as a block that ends after it.
+// One statement, if one begins here.
 #[cycle(blocks)]
 fn statement<'a>(
     alloc: Global,
     cursor: &mut Cursor<'_, 'a>,
     part: Part,
     around: usize,
-) -> Result<Option<NamedBlock<'a>>, Stop>
+) -> Result<Option<NamedStatement<'a>>, Stop>
     ensures reads { IfOk result (λ found. IsStatementOrNone (part_of part) around found (left cursor.old) (left cursor.new)) }
     ensures fewer { IfOk result (λ found. IfSome found (λ tree. length (left cursor.new) < length (left cursor.old))) }
     ensures stops { IfErr result (Stops (some_statements (part_of part) around ∷ []) (left cursor.old) (left cursor.new)) }
 {
     match part.beginning(cursor.front()) {
         Beginning::Assignment => {
-            let block = assigned(alloc, cursor)?;
-            Ok(Some(block))
+            let statement = assigned(alloc, cursor)?;
+            Ok(Some(statement))
         }
         Beginning::Choice => {
-            let block = choice(alloc, cursor, part, around)?;
-            Ok(Some(block))
+            let statement = choice(alloc, cursor, part, around)?;
+            Ok(Some(statement))
         }
         Beginning::Repetition => {
-            let block = repetition(alloc, cursor, part, around)?;
-            Ok(Some(block))
+            let statement = repetition(alloc, cursor, part, around)?;
+            Ok(Some(statement))
         }
         Beginning::Own => {
-            let block = own(alloc, cursor, part)?;
-            Ok(Some(block))
+            let statement = own(alloc, cursor, part)?;
+            Ok(Some(statement))
         }
         Beginning::Other => Ok(None),
     }
@@ -220,14 +213,14 @@ pub(crate) fn statements<'a>(
     ensures fewer { OnOk result (length (left cursor.new) ≤ length (left cursor.old)) }
     ensures stops { IfErr result (Stops (some_statements (part_of part) around ∷ []) (left cursor.old) (left cursor.new)) }
 {
-    let mut read = Vec::new(alloc);
+    let mut statements = Vec::new(alloc);
     loop {
         match statement(alloc, cursor, part, around)? {
             Some(statement) => {
-                read.reserve(1)?;
-                read.push_reserved(statement);
+                statements.reserve(1)?;
+                statements.push_reserved(statement);
             }
-            None => return Ok(Block::join(read)),
+            None => return Ok(Block { statements }),
         }
     }
 }

@@ -10,34 +10,30 @@ use crate::keys::{NamedKey, item, tag};
 use crate::stop::Stop;
 use crate::{Symbol, Token};
 use std::alloc::Global;
-use steptree::{Block, Name, NamedBlock, Statement};
+use steptree::{Name, NamedStatement, Statement};
 
 /// An assignment, after its name.
 pub(crate) fn assignment<'a>(
     alloc: Global,
     cursor: &mut Cursor<'_, 'a>,
     variable: Name<'a>,
-) -> Result<NamedBlock<'a>, Stop>
-    ensures reads { IfOk result (λ block. IsValueRead block variable.entry (left cursor.old) (left cursor.new)) }
+) -> Result<NamedStatement<'a>, Stop>
+    ensures reads { IfOk result (λ statement. IsValueRead statement variable.entry (left cursor.old) (left cursor.new)) }
     ensures fewer { OnOk result (length (left cursor.new) < length (left cursor.old)) }
     ensures stops { IfErr result (Stops assignment_rest (left cursor.old) (left cursor.new)) }
 {
     cursor.sign(Symbol::Assign)?;
     let value = value(alloc, cursor)?;
     cursor.sign(Symbol::Semicolon)?;
-    let rest = Box::new(alloc, Block::end())?;
-    Ok(Block {
-        first: Statement::Assign {
-            variable,
-            value,
-            rest,
-        },
-    })
+    Ok(Statement::Assign { variable, value })
 }
 
 /// A read of an item, after its `get`.
-pub(crate) fn get<'a>(alloc: Global, cursor: &mut Cursor<'_, 'a>) -> Result<NamedBlock<'a>, Stop>
-    ensures reads { IfOk result (λ block. IsGetRead block (left cursor.old) (left cursor.new)) }
+pub(crate) fn get<'a>(
+    alloc: Global,
+    cursor: &mut Cursor<'_, 'a>,
+) -> Result<NamedStatement<'a>, Stop>
+    ensures reads { IfOk result (λ statement. IsGetRead statement (left cursor.old) (left cursor.new)) }
     ensures fewer { OnOk result (length (left cursor.new) < length (left cursor.old)) }
     ensures stops { IfErr result (Stops get_rest (left cursor.old) (left cursor.new)) }
 {
@@ -50,20 +46,16 @@ pub(crate) fn get<'a>(alloc: Global, cursor: &mut Cursor<'_, 'a>) -> Result<Name
         components,
     } = key;
     cursor.sign(Symbol::Semicolon)?;
-    let rest = Box::new(alloc, Block::end())?;
-    Ok(Block {
-        first: Statement::Get {
-            variable,
-            collection,
-            components,
-            rest,
-        },
+    Ok(Statement::Get {
+        variable,
+        collection,
+        components,
     })
 }
 
 // An item and its value, after `put [`.
-fn put_item<'a>(alloc: Global, cursor: &mut Cursor<'_, 'a>) -> Result<NamedBlock<'a>, Stop>
-    ensures reads { IfOk result (λ block. IsItemRead block (left cursor.old) (left cursor.new)) }
+fn put_item<'a>(alloc: Global, cursor: &mut Cursor<'_, 'a>) -> Result<NamedStatement<'a>, Stop>
+    ensures reads { IfOk result (λ statement. IsItemRead statement (left cursor.old) (left cursor.new)) }
     ensures fewer { OnOk result (length (left cursor.new) < length (left cursor.old)) }
     ensures stops { IfErr result (Stops item_rest (left cursor.old) (left cursor.new)) }
 {
@@ -75,20 +67,16 @@ fn put_item<'a>(alloc: Global, cursor: &mut Cursor<'_, 'a>) -> Result<NamedBlock
     cursor.sign(Symbol::Assign)?;
     let value = value(alloc, cursor)?;
     cursor.sign(Symbol::Semicolon)?;
-    let rest = Box::new(alloc, Block::end())?;
-    Ok(Block {
-        first: Statement::PutItem {
-            collection,
-            components,
-            value,
-            rest,
-        },
+    Ok(Statement::PutItem {
+        collection,
+        components,
+        value,
     })
 }
 
 // A tag, after `put <`.
-fn put_tag<'a>(alloc: Global, cursor: &mut Cursor<'_, 'a>) -> Result<NamedBlock<'a>, Stop>
-    ensures reads { IfOk result (λ block. IsTagRead block (left cursor.old) (left cursor.new)) }
+fn put_tag<'a>(alloc: Global, cursor: &mut Cursor<'_, 'a>) -> Result<NamedStatement<'a>, Stop>
+    ensures reads { IfOk result (λ statement. IsTagRead statement (left cursor.old) (left cursor.new)) }
     ensures fewer { OnOk result (length (left cursor.new) < length (left cursor.old)) }
     ensures stops { IfErr result (Stops tag_rest (left cursor.old) (left cursor.new)) }
 {
@@ -98,19 +86,18 @@ fn put_tag<'a>(alloc: Global, cursor: &mut Cursor<'_, 'a>) -> Result<NamedBlock<
         components,
     } = key;
     cursor.sign(Symbol::Semicolon)?;
-    let rest = Box::new(alloc, Block::end())?;
-    Ok(Block {
-        first: Statement::PutTag {
-            collection,
-            components,
-            rest,
-        },
+    Ok(Statement::PutTag {
+        collection,
+        components,
     })
 }
 
 /// A put of an item or a tag, after its `put`.
-pub(crate) fn put<'a>(alloc: Global, cursor: &mut Cursor<'_, 'a>) -> Result<NamedBlock<'a>, Stop>
-    ensures reads { IfOk result (λ block. IsPutRead block (left cursor.old) (left cursor.new)) }
+pub(crate) fn put<'a>(
+    alloc: Global,
+    cursor: &mut Cursor<'_, 'a>,
+) -> Result<NamedStatement<'a>, Stop>
+    ensures reads { IfOk result (λ statement. IsPutRead statement (left cursor.old) (left cursor.new)) }
     ensures fewer { OnOk result (length (left cursor.new) < length (left cursor.old)) }
     ensures stops { IfErr result (Stops (put_target ∷ []) (left cursor.old) (left cursor.new)) }
 {

@@ -205,72 +205,56 @@ fn append<T: Copy>(list: &mut Vec<T>, value: T) -> Result<(), AllocError> {
     Ok(())
 }
 
-// Carries out a block: its first statement, and then the others.
+// Carries out a block, statement after statement.
 fn tell(state: &mut Plain, block: &Block) -> Result<(), Halt> {
-    match &block.first {
-        Statement::End => Ok(()),
-        Statement::Assign {
-            variable,
-            value,
-            rest,
-        } => {
-            state.assign(*variable, value)?;
-            tell(state, rest)
-        }
+    for statement in &block.statements {
+        tell_one(state, statement)?;
+    }
+    Ok(())
+}
+
+fn tell_one(state: &mut Plain, statement: &Statement) -> Result<(), Halt> {
+    match statement {
+        Statement::Assign { variable, value } => state.assign(*variable, value),
         Statement::If {
             condition,
             first,
             second,
-            rest,
         } => {
             if state.test(condition)? {
-                tell(state, first)?;
+                tell(state, first)
             } else {
-                tell(state, second)?;
+                tell(state, second)
             }
-            tell(state, rest)
         }
         Statement::For {
             variable,
             from,
             to,
-            block: turns,
-            rest,
+            block,
         } => {
             let (from, to) = state.ends(from, to)?;
             for at in from..to {
                 state.count()?;
                 state.set(*variable, at);
-                tell(state, turns)?;
+                tell(state, block)?;
             }
-            tell(state, rest)
+            Ok(())
         }
         Statement::Get {
             variable,
             collection,
             components,
-            rest,
-        } => {
-            state.get(*variable, *collection, components)?;
-            tell(state, rest)
-        }
+        } => state.get(*variable, *collection, components),
         Statement::PutItem {
             collection,
             components,
             value,
-            rest,
-        } => {
-            state.put_item(*collection, components, value)?;
-            tell(state, rest)
-        }
+        } => state.put_item(*collection, components, value),
         Statement::PutTag {
             collection,
             components,
-            rest,
-        } => {
-            state.put_tag(*collection, components)?;
-            tell(state, rest)
-        }
+        } => state.put_tag(*collection, components),
     }
 }
 

@@ -1,6 +1,6 @@
 ghost use Rattle.std.specs.Prelude.{◌≡◌, ◌<◌, length, suc};
 ghost use Rattle.graph.specs.Canonical.{line, assignment_line, condition_line, range_line, get_line, put_item_line, put_tag_line, choice_text, loop_text, block_text};
-ghost use Rattle.graph.specs.Pieces.{Writes, WritesFirst, in_words, bounds_text};
+ghost use Rattle.graph.specs.Pieces.{Writes, WritesStatement, in_words, bounds_text};
 
 use super::expressions::{put_expression, put_item, put_tag};
 use super::pieces::{put, put_indentation};
@@ -193,60 +193,50 @@ fn put_loop(
     put_line(text, level, "}")
 }
 
-/// The first statement of a block, with the blocks inside it.
+/// A statement, with the blocks inside it.
 #[cycle(blocks)]
 #[tactic(auto, using(std::proofs::Common::append_assoc))]
-fn put_first(
+fn put_statement(
     text: &mut Vec<u8>,
     words: &Words<'_>,
     level: usize,
-    block: &Block,
+    statement: &Statement,
 ) -> Result<(), AllocError>
-    ensures { WritesFirst result text.old text.new words.now level block.now }
+    ensures { WritesStatement result text.old text.new words.now level statement.now }
 {
-    match &block.first {
-        Statement::End => Ok(()),
-        Statement::Assign {
-            variable,
-            value,
-            ..
-        } => put_assignment(text, words, level, *variable, value),
+    match statement {
+        Statement::Assign { variable, value } => {
+            put_assignment(text, words, level, *variable, value)
+        }
         Statement::If {
             condition,
             first,
             second,
-            ..
         } => put_choice(text, words, level, condition, first, second),
         Statement::For {
             variable,
             from,
             to,
             block,
-            ..
         } => put_loop(text, words, level, *variable, from, to, block),
         Statement::Get {
             variable,
             collection,
             components,
-            ..
         } => put_get(text, words, level, *variable, *collection, components),
         Statement::PutItem {
             collection,
             components,
             value,
-            ..
         } => put_item_put(text, words, level, *collection, components, value),
         Statement::PutTag {
             collection,
             components,
-            ..
         } => put_tag_put(text, words, level, *collection, components),
     }
 }
 
 /// A block, one statement a line, indented by `level` levels.
-///
-/// It loops over the statements, and calls itself for the blocks inside them.
 #[cycle(blocks)]
 pub(crate) fn put_block(
     text: &mut Vec<u8>,
@@ -256,10 +246,8 @@ pub(crate) fn put_block(
 ) -> Result<(), AllocError>
     ensures { Writes result text.old text.new (in_words words.now block_text level block.now) }
 {
-    let mut left = block;
-    while let Some(rest) = left.rest() {
-        put_first(text, words, level, left)?;
-        left = rest;
+    for statement in &block.statements {
+        put_statement(text, words, level, statement)?;
     }
     Ok(())
 }

@@ -1,15 +1,19 @@
 ghost use Rattle.std.specs.Prelude.{◌≤◌, length, IfOk};
-ghost use Rattle.steptree.specs.Tree.{If, For, Get, PutItem, PutTag};
+ghost use Rattle.steptree.specs.Tree.{End, If, For, Get, PutItem, PutTag};
 ghost use Rattle.steptree.specs.declared.slot.TheConstants.{MOST_NAMES};
 ghost use Rattle.steptree.specs.CheckFaults.{block_faults};
 ghost use Rattle.steptree.specs.Limits.{AreFew};
 ghost use Rattle.steptree.specs.Resolved.{IsBlock};
 ghost use Rattle.steptree.specs.Sheet.{KeepsTo};
-ghost use Rattle.steptree.specs.Statements.{texts, Reports, ReportsAssignment, ReportsChoice, ReportsLoop, ReportsGet, ReportsItemPut, ReportsTagPut, IsStatement, IsAssignment, ResolvesFirst};
+ghost use Rattle.steptree.specs.Statements.{texts, Reports, ReportsAssignment, ReportsChoice, ReportsLoop, ReportsGet, ReportsItemPut, ReportsTagPut, IsStatement, IsAssignment};
+ghost use Rattle.steptree.specs.SeenBlocks.{stated};
 
 use super::expressions::{resolve_expression, resolve_key};
 use super::names::slot;
-use crate::{Block, CheckError, CheckFault, Name, NamedBlock, NamedExpression, Sheet, Statement};
+use crate::{
+    Block, CheckError, CheckFault, Name, NamedBlock, NamedExpression, NamedStatement, Sheet,
+    Statement,
+};
 use std::alloc::Global;
 use terms::{ItemCollection, TagCollection};
 
@@ -19,17 +23,14 @@ fn assign(
     names: &[Name<'_>],
     variable: &Name<'_>,
     value: &NamedExpression<'_>,
-) -> Result<Block, CheckFault>
+) -> Result<Statement, CheckFault>
     requires { length names.now ≤ MOST_NAMES }
     ensures statement { IfOk result (IsAssignment (texts names.now) variable.now value.now) }
     ensures faults { ReportsAssignment (texts names.now) variable.now value.now result }
 {
-    Ok(Block {
-        first: Statement::Assign {
-            variable: slot(names, variable)?,
-            value: resolve_expression(alloc, names, value)?,
-            rest: Box::new(alloc, Block::end())?,
-        },
+    Ok(Statement::Assign {
+        variable: slot(names, variable)?,
+        value: resolve_expression(alloc, names, value)?,
     })
 }
 
@@ -42,7 +43,7 @@ fn choose(
     condition: &NamedExpression<'_>,
     first: &NamedBlock<'_>,
     second: &NamedBlock<'_>,
-) -> Result<Block, CheckFault>
+) -> Result<Statement, CheckFault>
     requires named { length names.now ≤ MOST_NAMES }
     requires items { AreFew sheet.now.items }
     requires tags { AreFew sheet.now.tags }
@@ -52,13 +53,10 @@ fn choose(
     let condition = resolve_expression(alloc, names, condition)?;
     let first = resolve_block(alloc, names, sheet, first)?;
     let second = resolve_block(alloc, names, sheet, second)?;
-    Ok(Block {
-        first: Statement::If {
-            condition,
-            first: Box::new(alloc, first)?,
-            second: Box::new(alloc, second)?,
-            rest: Box::new(alloc, Block::end())?,
-        },
+    Ok(Statement::If {
+        condition,
+        first,
+        second,
     })
 }
 
@@ -72,7 +70,7 @@ fn repeat(
     from: &NamedExpression<'_>,
     to: &NamedExpression<'_>,
     block: &NamedBlock<'_>,
-) -> Result<Block, CheckFault>
+) -> Result<Statement, CheckFault>
     requires named { length names.now ≤ MOST_NAMES }
     requires items { AreFew sheet.now.items }
     requires tags { AreFew sheet.now.tags }
@@ -83,14 +81,11 @@ fn repeat(
     let from = resolve_expression(alloc, names, from)?;
     let to = resolve_expression(alloc, names, to)?;
     let block = resolve_block(alloc, names, sheet, block)?;
-    Ok(Block {
-        first: Statement::For {
-            variable,
-            from,
-            to,
-            block: Box::new(alloc, block)?,
-            rest: Box::new(alloc, Block::end())?,
-        },
+    Ok(Statement::For {
+        variable,
+        from,
+        to,
+        block,
     })
 }
 
@@ -102,7 +97,7 @@ fn get(
     variable: &Name<'_>,
     item: &Name<'_>,
     components: &Vec<NamedExpression<'_>>,
-) -> Result<Block, CheckFault>
+) -> Result<Statement, CheckFault>
     requires named { length names.now ≤ MOST_NAMES }
     requires items { AreFew sheet.now.items }
     ensures statement { IfOk result (IsStatement (texts names.now) sheet.now (Get variable.now item.now components.now)) }
@@ -119,13 +114,10 @@ fn get(
         item,
         components,
     )?;
-    Ok(Block {
-        first: Statement::Get {
-            variable,
-            collection: ItemCollection(number),
-            components,
-            rest: Box::new(alloc, Block::end())?,
-        },
+    Ok(Statement::Get {
+        variable,
+        collection: ItemCollection(number),
+        components,
     })
 }
 
@@ -137,7 +129,7 @@ fn put_item(
     item: &Name<'_>,
     components: &Vec<NamedExpression<'_>>,
     value: &NamedExpression<'_>,
-) -> Result<Block, CheckFault>
+) -> Result<Statement, CheckFault>
     requires named { length names.now ≤ MOST_NAMES }
     requires items { AreFew sheet.now.items }
     ensures statement { IfOk result (IsStatement (texts names.now) sheet.now (PutItem item.now components.now value.now)) }
@@ -154,13 +146,10 @@ fn put_item(
         components,
     )?;
     let value = resolve_expression(alloc, names, value)?;
-    Ok(Block {
-        first: Statement::PutItem {
-            collection: ItemCollection(number),
-            components,
-            value,
-            rest: Box::new(alloc, Block::end())?,
-        },
+    Ok(Statement::PutItem {
+        collection: ItemCollection(number),
+        components,
+        value,
     })
 }
 
@@ -171,7 +160,7 @@ fn put_tag(
     sheet: &Sheet<'_>,
     tag: &Name<'_>,
     components: &Vec<NamedExpression<'_>>,
-) -> Result<Block, CheckFault>
+) -> Result<Statement, CheckFault>
     requires named { length names.now ≤ MOST_NAMES }
     requires items { AreFew sheet.now.items }
     requires tags { AreFew sheet.now.tags }
@@ -188,71 +177,57 @@ fn put_tag(
         tag,
         components,
     )?;
-    Ok(Block {
-        first: Statement::PutTag {
-            collection: TagCollection(number),
-            components,
-            rest: Box::new(alloc, Block::end())?,
-        },
+    Ok(Statement::PutTag {
+        collection: TagCollection(number),
+        components,
     })
 }
 
-/// Resolves the first statement of a block. The result is a block that ends after it, or the end.
+/// Resolves a statement.
 #[cycle(blocks)]
-fn resolve_first(
+fn resolve_statement(
     alloc: Global,
     names: &[Name<'_>],
     sheet: &Sheet<'_>,
-    block: &NamedBlock<'_>,
-) -> Result<Block, CheckFault>
+    statement: &NamedStatement<'_>,
+) -> Result<Statement, CheckFault>
     requires named { length names.now ≤ MOST_NAMES }
     requires items { AreFew sheet.now.items }
     requires tags { AreFew sheet.now.tags }
-    ensures { ResolvesFirst (texts names.now) sheet.now block.now result }
+    ensures statement { IfOk result (IsStatement (texts names.now) sheet.now (stated statement.now)) }
+    ensures faults { Reports (block_faults (texts names.now) sheet.now (stated statement.now End)) result }
 {
-    match &block.first {
-        Statement::End => Ok(Block::end()),
-        Statement::Assign {
-            variable,
-            value,
-            ..
-        } => assign(alloc, names, variable, value),
+    match statement {
+        Statement::Assign { variable, value } => assign(alloc, names, variable, value),
         Statement::If {
             condition,
             first,
             second,
-            ..
         } => choose(alloc, names, sheet, condition, first, second),
         Statement::For {
             variable,
             from,
             to,
             block,
-            ..
         } => repeat(alloc, names, sheet, variable, from, to, block),
         Statement::Get {
             variable,
             collection,
             components,
-            ..
         } => get(alloc, names, sheet, variable, collection, components),
         Statement::PutItem {
             collection,
             components,
             value,
-            ..
         } => put_item(alloc, names, sheet, collection, components, value),
         Statement::PutTag {
             collection,
             components,
-            ..
         } => put_tag(alloc, names, sheet, collection, components),
     }
 }
 
 /// Resolves a block: each name becomes what it stands for.
-///
-/// It goes through the statements in a loop, and calls itself for the blocks inside them.
 #[cycle(blocks)]
 pub(crate) fn resolve_block(
     alloc: Global,
@@ -268,19 +243,10 @@ pub(crate) fn resolve_block(
     ensures faults { Reports (block_faults (texts names.now) sheet.now block.now) result }
 {
     let mut statements = Vec::new(alloc);
-    let mut left = block;
-    loop {
-        let first = resolve_first(alloc, names, sheet, left)?;
+    for statement in &block.statements {
+        let resolved = resolve_statement(alloc, names, sheet, statement)?;
         statements.reserve(1)?;
-        statements.push_reserved(first);
-        match &left.first {
-            Statement::End => return Ok(Block::join(statements)),
-            Statement::Assign { rest, .. } => left = rest,
-            Statement::If { rest, .. } => left = rest,
-            Statement::For { rest, .. } => left = rest,
-            Statement::Get { rest, .. } => left = rest,
-            Statement::PutItem { rest, .. } => left = rest,
-            Statement::PutTag { rest, .. } => left = rest,
-        }
+        statements.push_reserved(resolved);
     }
+    Ok(Block { statements })
 }

@@ -1,16 +1,19 @@
-ghost use Rattle.std.specs.Prelude.{◌≡◌, IfOk, IfSome};
-ghost use Rattle.steptree.specs.Tree.{Number, Variable, Operation};
-ghost use Rattle.steptree.specs.Executed.{operand_of, pair_of, expression_of};
+ghost use Rattle.std.specs.Prelude.{◌≡◌, ◌<◌, IfOk, IfSome};
+ghost use Rattle.steptree.specs.Tree.{Number, Variable, Operation, expression_size};
+ghost use Rattle.steptree.specs.Executed.{operand_of, pair_of, linked, chained, expression_of};
 
-use crate::{Components, Expression, Formula, Node, Operand, Operator, Pair, Slot};
+use crate::{Components, Expression, Formula, Link, Node, Operand, Operator, Pair, Slot};
 use std::alloc::{AllocError, Global};
 
 /// The form in which an expression is evaluated.
 pub(crate) fn formula(alloc: Global, expression: &Expression) -> Result<Formula, AllocError>
     ensures { IfOk result (λ formula. expression_of formula ≡ expression.now) }
 {
-    match shallow(expression) {
-        Some(formula) => Ok(formula),
+    if let Some(formula) = shallow(expression) {
+        return Ok(formula);
+    }
+    match chain(alloc, expression)? {
+        Some((first, links)) => Ok(Formula::Chain(first, links)),
         None => Ok(Formula::Deep(copied(alloc, expression)?)),
     }
 }
@@ -28,10 +31,48 @@ fn shallow(expression: &Expression) -> Option<Formula>
     if let Some(pair) = pair(expression) {
         return Some(Formula::Two(pair));
     }
-    if let Some(formula) = nested(expression) {
-        return Some(formula);
+    nested(expression)
+}
+
+// A pair and the links after it, if each operation but the innermost one has an operand that is small.
+#[tactic(auto, using(crate::proofs::Chained::one_more))]
+fn chain(alloc: Global, expression: &Expression) -> Result<Option<(Pair, Vec<Link>)>, AllocError>
+    ensures { IfOk result (λ found. IfSome found (λ parts. chained (pair_of parts.0) parts.1.items ≡ expression.now)) }
+{
+    if let Some(first) = pair(expression) {
+        return Ok(Some((first, Vec::new(alloc))));
     }
-    nested_then(expression)
+    let Some((before, link)) = split(expression) else {
+        return Ok(None);
+    };
+    match chain(alloc, before)? {
+        Some((first, mut links)) => {
+            links.push(link)?;
+            Ok(Some((first, links)))
+        }
+        None => Ok(None),
+    }
+}
+
+// The part of an operation that is evaluated first, and what is done with its value. The other operand has to be small.
+fn split(expression: &Expression) -> Option<(&Expression, Link)>
+    ensures linked { IfSome result (λ parts. linked parts.0.now parts.1 ≡ expression.now) }
+    ensures smaller { IfSome result (λ parts. expression_size parts.0.now < expression_size expression.now) }
+{
+    match &expression.node {
+        Node::Operation(operator, operands) => {
+            let (left, right) = &**operands;
+            if let Some(right) = operand(right) {
+                return Some((left, Link::Before(*operator, right)));
+            }
+            if let Some(left) = operand(left) {
+                return Some((right, Link::After(*operator, left)));
+            }
+            let right = pair(right)?;
+            Some((left, Link::BeforePair(*operator, right)))
+        }
+        _ => None,
+    }
 }
 
 // A number or a variable.
@@ -132,30 +173,6 @@ fn nested(expression: &Expression) -> Option<Formula>
             }
             let right = pair(&operands.1)?;
             Some(Formula::Both(*operator, left, right))
-        }
-        _ => None,
-    }
-}
-
-// An operation on what `nested` has a form for, but for two pairs, and an operand.
-fn nested_then(expression: &Expression) -> Option<Formula>
-    ensures { IfSome result (λ formula. expression_of formula ≡ expression.now) }
-{
-    match &expression.node {
-        Node::Operation(operator, operands) => {
-            let last = operand(&operands.1)?;
-            match &operands.0.node {
-                Node::Operation(inner, parts) => {
-                    if let Some(left) = operand(&parts.0) {
-                        let right = pair(&parts.1)?;
-                        return Some(Formula::SecondThen(*operator, *inner, left, right, last));
-                    }
-                    let left = pair(&parts.0)?;
-                    let right = operand(&parts.1)?;
-                    Some(Formula::FirstThen(*operator, *inner, left, right, last))
-                }
-                _ => None,
-            }
         }
         _ => None,
     }

@@ -1,8 +1,7 @@
-use Rattle.std.proofs.Common.{rules, arith, sym, subst, List}
-use Rattle.std.specs.Borrow.{Bor}
-use Rattle.steptree.specs.Tree.{Block}
-use Rattle.steptree.specs.Compiled.{IsCode}
-use Rattle.steptree.proofs.Coded.{IsChain, stays, keeps_on, chain_more, chain_last}
+use Rattle.std.proofs.Common.{◌<◌, ◌-◌, length, ap, arith}
+use Rattle.steptree.specs.Tree.{block_size}
+use Rattle.steptree.proofs.Joining.{no_larger}
+use Rattle.steptree.proofs.Coded.{stays, keeps_on}
 use Rattle.steptree.proofs.compiler.+compile.Goals as goal
 
 pub choose-returns-clause-code : goal.choose-returns-clause-code
@@ -31,23 +30,8 @@ repeat-returns-clause-code t c = λ rest stop is.
       stays _ _ (keeps_on _ _ _ c.in_ok-turn.ensures.keeps last) c.args.after rest stop is,
     )
 
-pub compile_block-loop-rest-preserved : goal.compile_block-loop-rest-preserved
-compile_block-loop-rest-preserved t c =
-    subst (λ (l : List (Bor Block)). IsChain c.args.block.now l c.in-Some.rest.now) (search rules)
-    (chain_more c.args.block.now _ c.loop-rest.left c.in-Some.rest.now c.loop-rest.invariant (sym c.in-Some.ensures.0))
-
-pub compile_block-compile_first-requires : goal.compile_block-compile_first-requires
-compile_block-compile_first-requires t c =
-    let chain = subst (λ (l : List (Bor Block)). IsChain c.args.block.now l c.loop-last.invariant.0) c.in-Some-pop.ensures.items c.loop-last.invariant.1 in
-    let ends = chain_last c.args.block.now c.pop.new.self.items c.in-Some-pop.last c.loop-last.invariant.0 chain in
-    (omega (arith, ends.smaller, c.decreases), tt)
-
-pub compile_block-loop-last-preserved : goal.compile_block-loop-last-preserved
-compile_block-loop-last-preserved t c =
-    let chain = subst (λ (l : List (Bor Block)). IsChain c.args.block.now l c.loop-last.invariant.0) c.in-Some-pop.ensures.items c.loop-last.invariant.1 in
-    let ends = chain_last c.args.block.now c.pop.new.self.items c.in-Some-pop.last c.loop-last.invariant.0 chain in (
-      c.in-Some-pop.last.now,
-      ends.chain,
-      c.in_ok-at.ensures.code c.args.stop (subst (λ (b : Block). IsCode c.loop-last.code.items c.loop-last.at b c.args.stop) (sym ends.next) c.loop-last.invariant.2),
-      keeps_on _ _ _ c.loop-last.invariant.3 c.in_ok-at.ensures.keeps,
-    )
+pub compile_block-compile_statement-requires : goal.compile_block-compile_statement-requires
+compile_block-compile_statement-requires t c =
+    let statements = c.block.inside.statements.items in
+    let within : c.loop-left.left - 1 < length statements = omega (arith, c.loop-left.invariant.0, c.loop-left-test.true) in
+    (omega (arith, no_larger statements (c.loop-left.left - 1) c.index.result.now within c.index.ensures, ap block_size c.block.view_is, c.decreases), tt)

@@ -24,8 +24,8 @@ abbrev pub decreases-statements : goal.decreases-statements
 decreases-statements l = 5 * (MOST_BRACES - l.around) + 4
 
 -- these statements are read
-abbrev pub invariant-statements-loop-read : goal.invariant-statements-loop-read
-invariant-statements-loop-read l = StatementsSoFar (part_of l.part) l.around (left l.fn.cursor) (left l.cursor) l.read.items × (length (left l.cursor) ≤ length (left l.fn.cursor))
+abbrev pub invariant-statements-loop-statements : goal.invariant-statements-loop-statements
+invariant-statements-loop-statements l = StatementsSoFar (part_of l.part) l.around (left l.fn.cursor) (left l.cursor) l.statements.items × (length (left l.cursor) ≤ length (left l.fn.cursor))
 
-abbrev pub decreases-statements-loop-read : goal.decreases-statements-loop-read
-decreases-statements-loop-read l = length (left l.cursor)
+abbrev pub decreases-statements-loop-statements : goal.decreases-statements-loop-statements
+decreases-statements-loop-statements l = length (left l.cursor)

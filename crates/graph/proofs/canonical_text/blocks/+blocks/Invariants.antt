@@ -1,17 +1,17 @@
-use Rattle.std.proofs.Common.{◌≡◌, ◌+◌, ◌*◌, ◌≤◌, ◌++◌, max}
-use Rattle.steptree.specs.Tree.{block_size}
+use Rattle.std.proofs.Common.{◌≡◌, ◌+◌, ◌*◌, ◌++◌, max, drop}
+use Rattle.steptree.specs.Tree.{End, block_size}
+use Rattle.steptree.specs.SeenBlocks.{stated, joined}
 use Rattle.graph.specs.Canonical.{block_text}
-use Rattle.graph.specs.Pieces.{names_of_words}
+use Rattle.graph.specs.Pieces.{in_words}
 use Rattle.graph.proofs.canonical_text.blocks.+blocks.Given as goal
 
--- what is written, with what is left of the block, gives the whole; and what is left is no larger than the block
-abbrev pub invariant-put_block-loop-rest : goal.invariant-put_block-loop-rest
-invariant-put_block-loop-rest l =
-    (l.text.items ++ block_text l.words.graph.now (names_of_words l.words) l.level l.left ≡ l.fn.text.items ++ block_text l.words.graph.now (names_of_words l.words) l.level l.block)
-    × (block_size l.left ≤ block_size l.block)
+-- what is written, with the statements that are left, is the whole
+abbrev pub invariant-put_block-loop-statement : goal.invariant-put_block-loop-statement
+invariant-put_block-loop-statement l =
+    l.text.items ++ in_words l.words block_text l.level (joined (drop l.statement-index l.statement-items) End) ≡ l.fn.text.items ++ in_words l.words block_text l.level (joined l.statement-items End)
 
-abbrev pub decreases-put_first : goal.decreases-put_first
-decreases-put_first l = 3 * block_size l.block.now + 1
+abbrev pub decreases-put_statement : goal.decreases-put_statement
+decreases-put_statement l = 3 * block_size (stated l.statement.now End) + 1
 
 abbrev pub decreases-put_block : goal.decreases-put_block
 decreases-put_block l = 3 * block_size l.block.now + 2
