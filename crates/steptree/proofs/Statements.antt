@@ -1,6 +1,5 @@
 -- The statements of a block, resolved one after another.
 use Rattle.std.proofs.Common.{◌≡◌, ◌<◌, ℕ, ◌+◌, List, [], ◌∷◌, ◌++◌, length, drop, get_or, refl, sym, ap, subst, ◌∙◌, arith, append_assoc}
-use Rattle.steptree.specs.declared.block.Statement.TheVariants as statement
 use Rattle.steptree.specs.declared.checker.CheckFault.{CheckFault}
 use Rattle.steptree.specs.Tree.{Block, NamedBlock, End}
 use Rattle.steptree.specs.SeenBlocks.{NumberedStatement, NamedStatement, stated, joined}
@@ -17,12 +16,7 @@ use Rattle.steptree.proofs.Lists.{past, with_none, empty_in_front}
 module _ (names : List Text) (sheet : Nameable) where
   -- the faults of a block are those of its first statement, and then the others
   faults_of_first : (first : NamedStatement) (rest : NamedBlock) → block_faults names sheet (stated first rest) ≡ block_faults names sheet (stated first End) ++ block_faults names sheet rest
-  faults_of_first (statement.Assign variable value) rest = grind (arith, append_assoc, with_none)
-  faults_of_first (statement.If condition first second) rest = grind (arith, append_assoc, with_none)
-  faults_of_first (statement.For variable from to block) rest = grind (arith, append_assoc, with_none)
-  faults_of_first (statement.Get variable collection components) rest = grind (arith, append_assoc, with_none)
-  faults_of_first (statement.PutItem collection components value) rest = grind (arith, append_assoc, with_none)
-  faults_of_first (statement.PutTag collection components) rest = grind (arith, append_assoc, with_none)
+  faults_of_first first rest = grind (arith, append_assoc, with_none)
 
   module _ (statements : List NamedStatement) where
     -- the statements before the index are resolved, and none of them has a fault

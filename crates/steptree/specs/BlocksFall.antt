@@ -3,16 +3,10 @@ use Rattle.std.specs.Prelude.{◌≤◌, List, [], ◌∷◌}
 use Rattle.std.proofs.Common.{arith}
 use denote.Param.Weighed.{most}
 use Rattle.steptree.specs.declared.block.Statement.{Statement}
-use Rattle.steptree.specs.declared.block.Statement.TheVariants as statement
 use Rattle.steptree.specs.declared.block.Block.TheDeep.{deep-Statement}
 use Rattle.steptree.specs.Tree.{End, block_size}
 use Rattle.steptree.specs.SeenBlocks.{joined}
 
 pub falls : {V I T C : Type 0} (statements : List (Statement V I T C)) → most (deep-Statement V I T C) statements ≤ block_size (joined statements End)
 falls [] = omega arith
-falls (statement.Assign variable value ∷ others) = omega (arith, falls others)
-falls (statement.If condition first second ∷ others) = omega (arith, falls others)
-falls (statement.For variable from to block ∷ others) = omega (arith, falls others)
-falls (statement.Get variable collection components ∷ others) = omega (arith, falls others)
-falls (statement.PutItem collection components value ∷ others) = omega (arith, falls others)
-falls (statement.PutTag collection components ∷ others) = omega (arith, falls others)
+falls (first ∷ others) = grind (arith, falls others)
