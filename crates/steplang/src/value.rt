@@ -55,11 +55,20 @@ pub(crate) fn evaluate(formula: &Formula, variables: &Variables) -> Result<i64, 
             let right = evaluate_pair(right, variables)?;
             operate(*operator, left, right)
         }
-        Formula::Chain(..) | Formula::Deep(_) => {
-            let value = evaluate_long(formula, variables)?;
-            Ok(value)
-        }
+        Formula::FirstThen(..) | Formula::SecondThen(..) | Formula::Chain(..) | Formula::Deep(_) =>
+            long(formula, variables),
     }
+}
+
+// Evaluates a formula of more than two operations in a row. The result of the call has a place of its own in memory, which
+// the shorter ones do not clear.
+#[inline(always)]
+fn long(formula: &Formula, variables: &Variables) -> Result<i64, FaultKind>
+    requires { IsLong formula.now }
+    ensures { result ≡ value_of (expression_of formula.now) variables.now }
+{
+    let value = evaluate_long(formula, variables)?;
+    Ok(value)
 }
 
 // Evaluates a formula of more than two operations in a row. It is a call, so that the shorter ones have room; and it
@@ -71,6 +80,17 @@ fn evaluate_long(formula: &Formula, variables: &Variables) -> Result<i64, FaultK
     ensures { result ≡ value_of (expression_of formula.now) variables.now }
 {
     match formula {
+        Formula::FirstThen(operator, inner, left, right, last) => {
+            let left = evaluate_pair(left, variables)?;
+            let left = operate(*inner, left, operand(right, variables))?;
+            operate(*operator, left, operand(last, variables))
+        }
+        Formula::SecondThen(operator, inner, left, right, last) => {
+            let left = operand(left, variables);
+            let right = evaluate_pair(right, variables)?;
+            let left = operate(*inner, left, right)?;
+            operate(*operator, left, operand(last, variables))
+        }
         Formula::Chain(first, links) => evaluate_chain(first, links, variables),
         Formula::Deep(expression) => evaluate_expression(expression, variables),
         _ => unreachable!(),

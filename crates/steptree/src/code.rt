@@ -45,6 +45,10 @@ pub enum Formula {
     First(Operator, Pair, Operand),
     /// An operation whose right operand is a pair.
     Second(Operator, Operand, Pair),
+    /// An operation whose left operand is a `First`: first its own operator, then that of the `First`.
+    FirstThen(Operator, Operator, Pair, Operand, Operand),
+    /// An operation whose left operand is a `Second`: first its own operator, then that of the `Second`.
+    SecondThen(Operator, Operator, Operand, Pair, Operand),
     /// An operation on two pairs.
     Both(Operator, Pair, Pair),
     /// A pair, and links one after another.
@@ -65,6 +69,8 @@ impl Drop for Formula {
             Formula::Two(_) => {}
             Formula::First(_, _, _) => {}
             Formula::Second(_, _, _) => {}
+            Formula::FirstThen(_, _, _, _, _) => {}
+            Formula::SecondThen(_, _, _, _, _) => {}
             Formula::Both(_, _, _) => {}
             Formula::Chain(_, _) => {}
             Formula::Deep(_) => {}

@@ -31,7 +31,10 @@ fn shallow(expression: &Expression) -> Option<Formula>
     if let Some(pair) = pair(expression) {
         return Some(Formula::Two(pair));
     }
-    nested(expression)
+    if let Some(formula) = nested(expression) {
+        return Some(formula);
+    }
+    nested_then(expression)
 }
 
 // A pair and the links after it, if each operation but the innermost one has an operand that is small.
@@ -173,6 +176,30 @@ fn nested(expression: &Expression) -> Option<Formula>
             }
             let right = pair(&operands.1)?;
             Some(Formula::Both(*operator, left, right))
+        }
+        _ => None,
+    }
+}
+
+// An operation on what `nested` has a form for, but for two pairs, and an operand.
+fn nested_then(expression: &Expression) -> Option<Formula>
+    ensures { IfSome result (λ formula. expression_of formula ≡ expression.now) }
+{
+    match &expression.node {
+        Node::Operation(operator, operands) => {
+            let last = operand(&operands.1)?;
+            match &operands.0.node {
+                Node::Operation(inner, parts) => {
+                    if let Some(left) = operand(&parts.0) {
+                        let right = pair(&parts.1)?;
+                        return Some(Formula::SecondThen(*operator, *inner, left, right, last));
+                    }
+                    let left = pair(&parts.0)?;
+                    let right = operand(&parts.1)?;
+                    Some(Formula::FirstThen(*operator, *inner, left, right, last))
+                }
+                _ => None,
+            }
         }
         _ => None,
     }
