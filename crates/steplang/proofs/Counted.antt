@@ -1,5 +1,5 @@
 -- An instruction that was counted, or not.
-use Rattle.std.proofs.Common.{◌≡◌, ◌-◌, ℕ, zero, suc, Bool, true, false, nat_lt, List, [], ◌∷◌, reverse, if◌then◌else◌, refl, ap, ◌∙◌, sym, arith}
+use Rattle.std.proofs.Common.{◌≡◌, ◌-◌, ℕ, zero, suc, Bool, true, false, nat_lt, List, [], ◌∷◌, if◌then◌else◌, refl, ap, ◌∙◌, sym, arith}
 use Rattle.std.specs.Prelude.{Option, Some, slice_get}
 use Rattle.std.proofs.lemmas.Bool.Decides.{nat_tests}
 use Rattle.terms.specs.declared.fault.FaultKind.TheVariants.{Budget}
@@ -11,7 +11,7 @@ use Rattle.steptree.specs.Executed.{Onward, carried_out, performed, stepped, exe
 use Rattle.steptree.specs.Compiled.{Stands}
 use Rattle.steplang.specs.declared.machine.Progress.{Progress}
 use Rattle.steplang.specs.declared.machine.Machine.{Machine}
-use Rattle.steplang.specs.Machine.{state_of, outcome_from, outcome_after}
+use Rattle.steplang.specs.Machine.{state_of, open_loops, outcome_from, outcome_after}
 
 -- what comes of a place after the next instruction that is counted
 unfoldable pub onward_of : ℕ → List Instruction → Onward
@@ -48,13 +48,13 @@ abbrev one_more : Progress → Bool → Progress
 one_more before below = record before { counted = if below then suc before.counted else before.counted }
 
 module _ (old : Machine) (before after : Progress) (below : Bool) (counted : below ≡ nat_lt before.counted BUDGET) (one : Instruction) (stands : Stands old.code.now before.at one)
-    (same : (state : State) (onward : Onward) (out : Outcome) → performed onward (reverse old.loops.items) (Some one) state out ≡ counting state (carried_out onward (reverse old.loops.items) one)) where
+    (same : (state : State) (onward : Onward) (out : Outcome) → performed onward (open_loops old) (Some one) state out ≡ counting state (carried_out onward (open_loops old) one)) where
   -- the outcome is what the instruction leads to after it was counted
   pub made : below ≡ true → after ≡ record before { counted = if below then suc before.counted else before.counted }
       → (reads : List Read) → outcome_from old before reads ≡ outcome_after one old after reads
   unfolding onward_of
   made is_below is_after reads =
-      let loops = reverse old.loops.items in
+      let loops = open_loops old in
       let state = state_of old before reads in
       let now = state_of old (one_more before true) reads in
       ap (λ (n : ℕ). executed n old.code.now loops before.at state) (within old.code.now before.counted (sym counted ∙ is_below))
@@ -66,7 +66,7 @@ module _ (old : Machine) (before after : Progress) (below : Bool) (counted : bel
   -- with no budget left it ends in a fault
   pub overspent : below ≡ false → (reads : List Read) → outcome_from old before reads ≡ faults Budget reads
   overspent is_over reads =
-      let loops = reverse old.loops.items in
+      let loops = open_loops old in
       let state = state_of old before reads in
       counted_on old.code.now (BUDGET - before.counted) loops before.at state one stands (same state)
       ∙ ap (λ (b : Bool). if b then carried_out (onward_of (BUDGET - before.counted) old.code.now) loops one (state_of old (one_more before true) reads) else faults Budget reads) (sym counted ∙ is_over)

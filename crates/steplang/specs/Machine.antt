@@ -1,5 +1,5 @@
 -- An instance while its code runs, seen as the outcome that is still to come.
-use Rattle.std.specs.Prelude.{◌≡◌, ℕ, ◌+◌, ◌-◌, ◌*◌, ◌<◌, ◌≤◌, ℤ, List, [], ◌∷◌, length, reverse, slice_get, slice_set, Some, IfOk, Result}
+use Rattle.std.specs.Prelude.{◌≡◌, ℕ, ◌+◌, ◌-◌, ◌*◌, ◌<◌, ◌≤◌, ℤ, List, [], ◌∷◌, length, reverse, Option, None, Some, IfOk, Result}
 use Rattle.steptree.specs.declared.body.TheConstants.{BUDGET}
 use Rattle.terms.specs.declared.put.Put.{Put}
 use Rattle.steptree.specs.declared.code.Instruction.{Instruction}
@@ -16,9 +16,18 @@ use Rattle.steplang.specs.declared.machine.Machine.{Machine}
 abbrev pub state_of : Machine → Progress → List Read → State
 state_of machine progress reads = record { variables = machine.variables; counted = progress.counted; reads = reads; puts = machine.puts.items }
 
--- what comes of a state at its place; the innermost loop is the last of its list
+-- the innermost loop, and those around it from the inner to the outer; none is open if there is no innermost one
+abbrev pub loops_of : Option Loop → List Loop → List Loop
+loops_of None around = []
+loops_of (Some innermost) around = innermost ∷ reverse around
+
+-- the loops that are open, the innermost first
+abbrev pub open_loops : Machine → List Loop
+open_loops machine = loops_of machine.inner machine.around.items
+
+-- what comes of a state at its place
 abbrev pub outcome_of_state : Machine → Progress → State → Outcome
-outcome_of_state machine progress state = executed (BUDGET - progress.counted) machine.code.now (reverse machine.loops.items) progress.at state
+outcome_of_state machine progress state = executed (BUDGET - progress.counted) machine.code.now (open_loops machine) progress.at state
 
 -- its outcome along these reads
 abbrev pub outcome_from : Machine → Progress → List Read → Outcome
@@ -26,11 +35,11 @@ outcome_from machine progress reads = outcome_of_state machine progress (state_o
 
 -- what comes of an instruction that was counted
 abbrev pub outcome_after : Instruction → Machine → Progress → List Read → Outcome
-outcome_after one machine progress reads = carried_out (executed (BUDGET - progress.counted) machine.code.now) (reverse machine.loops.items) one (state_of machine progress reads)
+outcome_after one machine progress reads = carried_out (executed (BUDGET - progress.counted) machine.code.now) (open_loops machine) one (state_of machine progress reads)
 
 -- what comes of a put that was counted, and after which the code goes on at `next`
 abbrev pub outcome_of_put : Put → ℕ → Machine → Progress → List Read → Outcome
-outcome_of_put put next machine progress reads = putting put (state_of machine progress reads) (executed (BUDGET - progress.counted) machine.code.now (reverse machine.loops.items) next)
+outcome_of_put put next machine progress reads = putting put (state_of machine progress reads) (executed (BUDGET - progress.counted) machine.code.now (open_loops machine) next)
 
 -- the variable gets the value: for any reads, the outcome that is to come now is the one from the state in which it has it
 abbrev pub GetsValue : ℕ → ℤ → Machine → Machine → Type 0
@@ -52,16 +61,9 @@ CarriesOut one old before new after step = LeadsFrom (outcome_after one old befo
 abbrev pub Carries : {E : Type 0} → Instruction → Machine → Progress → Machine → Progress → Result Step E → Type 0
 Carries one old before new after result = IfOk result (CarriesOut one old before new after)
 
--- the loop that was opened last; and the loops with this one in its place
-abbrev pub IsInnermost : List Loop → Loop → Type 0
-IsInnermost loops innermost = slice_get loops (length loops - 1) ≡ Some innermost
-
-abbrev pub with_innermost : List Loop → Loop → List Loop
-with_innermost loops innermost = slice_set loops (length loops - 1) innermost
-
 -- an upper bound on the steps that are left: each statement counts one, and opens at most one loop
 abbrev pub left_of : Machine → Progress → ℕ
-left_of machine progress = 2 * (BUDGET - progress.counted) + length machine.loops.items
+left_of machine progress = 2 * (BUDGET - progress.counted) + length (open_loops machine)
 
 -- if there is a next step, the bound is lower than before
 abbrev pub Falls : Machine → Progress → Step → Machine → Progress → Type 0

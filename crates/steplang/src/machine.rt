@@ -1,4 +1,4 @@
-ghost use Rattle.std.specs.Prelude.{◌≡◌, ◌≢◌, ◌<ℤ◌, slice_get, slice_set, Ok, suc, nat_lt, if◌then◌else◌, IfOk, MatchOption, None, [], pos};
+ghost use Rattle.std.specs.Prelude.{◌≡◌, ◌≢◌, ◌<ℤ◌, slice_get, slice_set, Ok, suc, nat_lt, if◌then◌else◌, IfOk, OnOk, MatchOption, None, Some, ◌∷◌, pos};
 ghost use Rattle.std.specs.Ordering.{int_eq};
 ghost use Rattle.steptree.specs.declared.body.TheConstants.{BUDGET};
 ghost use Rattle.steptree.specs.declared.code.Instruction.TheVariants as instruction;
@@ -6,7 +6,7 @@ ghost use Rattle.steptree.specs.Compiled.{Stands};
 ghost use Rattle.steptree.specs.Executed.{advanced};
 ghost use Rattle.steplang.specs.Stages.{IsStarted};
 ghost use Rattle.steplang.specs.declared.machine.Step.TheVariants.{On};
-ghost use Rattle.steplang.specs.Machine.{outcome_from, outcome_of_put, GetsValue, LeadsFrom, CarriesOut, IsInnermost, with_innermost, Falls, OpensOne, IsRare, Carries};
+ghost use Rattle.steplang.specs.Machine.{outcome_from, outcome_of_put, GetsValue, LeadsFrom, CarriesOut, open_loops, Falls, OpensOne, IsRare, Carries};
 
 use crate::value::{Variables, evaluate, evaluate_expression, evaluate_key, variables_of};
 use std::alloc::{AllocError, Global};
@@ -71,8 +71,10 @@ pub(crate) struct Machine<'a> {
     /// How far it was when it stopped last.
     pub(crate) progress: Progress,
     pub(crate) variables: Variables,
-    /// The loops that are open, the innermost last.
-    pub(crate) loops: Vec<Loop>,
+    /// The innermost loop that is open.
+    pub(crate) inner: Option<Loop>,
+    /// The loops around it, the innermost of them last. They mean nothing while no loop is open.
+    pub(crate) around: Vec<Loop>,
     pub(crate) puts: Vec<Put>,
     /// The item that was asked for last. It means nothing before the first.
     pub(crate) asked: Addr,
@@ -90,7 +92,8 @@ impl<'a> Machine<'a> {
                 counted: 0,
             },
             variables: variables_of(key),
-            loops: Vec::new(alloc),
+            inner: None,
+            around: Vec::new(alloc),
             puts: Vec::new(alloc),
             asked: Addr {
                 collection: ItemCollection(0),
@@ -109,7 +112,8 @@ impl<'a> Machine<'a> {
             counted: 0,
         };
         self.variables = variables_of(key);
-        self.loops.clear();
+        self.inner = None;
+        self.around.clear();
         self.puts.clear();
     }
 
@@ -134,11 +138,11 @@ impl<'a> Machine<'a> {
             };
             match one {
                 Instruction::Turn => {
-                    let Some(innermost) = self.innermost() else {
+                    let Some(innermost) = self.inner else {
                         return self.stop(progress, Step::Ended);
                     };
                     if innermost.next >= innermost.to {
-                        self.loops.pop();
+                        self.inner = self.around.pop();
                         progress.at = innermost.after;
                         continue 'steps;
                     }
@@ -222,37 +226,44 @@ impl<'a> Machine<'a> {
             Ok(to) => to,
             Err(kind) => return Ok(Step::Failed(kind)),
         };
-        self.loops.reserve(1)?;
-        self.loops.push_reserved(Loop {
+        self.enter(Loop {
             variable,
             next: from,
             to,
             begin,
             after,
-        });
+        })?;
         progress.at = turn;
         Ok(Step::On)
     }
 
-    // The innermost loop that is open.
+    // Opens this loop inside the ones that are open.
     #[inline(always)]
-    fn innermost(&self) -> Option<Loop>
-        ensures { MatchOption result (self.now.loops.items ≡ []) (IsInnermost self.now.loops.items) }
+    fn enter(&mut self, innermost: Loop) -> Result<(), AllocError>
+        ensures loops { OnOk result (open_loops self.new ≡ innermost ∷ open_loops self.old) }
+        ensures same { self.new ≡ record self.old { inner = self.new.inner; around = self.new.around } }
     {
-        self.loops.last().copied()
+        match self.inner {
+            Some(outer) => {
+                self.around.reserve(1)?;
+                self.around.push_reserved(outer);
+            }
+            None => self.around.clear(),
+        }
+        self.inner = Some(innermost);
+        Ok(())
     }
 
     // Begins a turn of the innermost loop, which was counted.
     #[inline(always)]
     fn turn(&mut self, innermost: Loop)
         requires left { innermost.next <ℤ innermost.to }
-        requires last { IsInnermost self.old.loops.items innermost }
-        ensures loops { self.new.loops.items ≡ with_innermost self.old.loops.items (advanced innermost) }
-        ensures variables { self.new.variables ≡ slice_set self.old.variables innermost.variable innermost.next }
-        ensures same { (self.new.code ≡ self.old.code) × (self.new.puts ≡ self.old.puts) }
+        requires inner { self.old.inner ≡ Some innermost }
+        ensures { self.new ≡ record self.old { inner = Some (advanced innermost); variables = slice_set self.old.variables innermost.variable innermost.next } }
     {
-        let last = self.loops.len() - 1;
-        self.loops[last].next = innermost.next + 1;
+        if let Some(inner) = &mut self.inner {
+            inner.next = innermost.next + 1;
+        }
         self.variables[innermost.variable.place()] = innermost.next;
     }
 

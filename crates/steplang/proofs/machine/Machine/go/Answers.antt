@@ -1,20 +1,19 @@
-use Rattle.std.proofs.Common.{◌≡◌, ◌-◌, ℕ, suc, pos, Bool, true, false, List, length, take, int_lt, reverse, if◌then◌else◌, refl, rules, sym, ap, ◌∙◌}
-use Rattle.std.specs.Borrow.{Bor}
+use Rattle.std.proofs.Common.{◌≡◌, ◌-◌, ℕ, suc, pos, Bool, true, false, List, int_lt, if◌then◌else◌, refl, rules, sym, ap, ◌∙◌}
 use Rattle.std.specs.Prelude.{None, Some, slice_get}
 use Rattle.steptree.specs.declared.code.Instruction.{Instruction}
 use Rattle.std.specs.Ordering.{int_eq}
 use Rattle.steptree.specs.declared.body.TheConstants.{BUDGET}
 use Rattle.steptree.specs.declared.code.Instruction.TheVariants as instruction
-use Rattle.steptree.specs.declared.code.Loop.{Loop}
 use Rattle.steptree.specs.Compiled.{Stands}
 use Rattle.steptree.specs.Executed.{executed}
 use Rattle.steplang.specs.declared.machine.Progress.{Progress}
 use Rattle.steplang.specs.declared.machine.Step.TheVariants.{Failed, Ended}
 use Rattle.terms.specs.declared.fault.FaultKind.TheVariants.{Budget}
-use Rattle.steplang.specs.Machine.{state_of, outcome_from}
+use Rattle.steplang.specs.declared.machine.Machine.{Machine}
+use Rattle.steplang.specs.Machine.{state_of, open_loops, outcome_from}
 use Rattle.steplang.proofs.Counted.{ended, made, overspent}
 use Rattle.steplang.proofs.Leads.{stopped}
-use Rattle.steplang.proofs.Looped.{none_open, over, spent, leads_on}
+use Rattle.steplang.proofs.Looped.{left_one, none_open, over, spent, turned_on}
 use Rattle.steplang.proofs.Valued.{given_ok, given_err}
 use Rattle.steplang.proofs.machine.Machine.go.Goals as goal
 
@@ -23,31 +22,26 @@ returns-in_default-clause-leads c =
     let old = c.steps.self in
     let before = c.steps.progress in
     stopped (outcome_from c.args.self.now c.args.self.now.progress) old c.stop.new.self before Ended c.stop.result c.stop.ensures
-    (λ reads. c.steps.invariant.same reads ∙ ended old.code.now None (BUDGET - before.counted) (reverse old.loops.items) before.at (state_of old before reads) (ap (λ (l : List Instruction). slice_get l before.at) (sym c.steps.invariant.code) ∙ c.in_default.ensures) (λ onward out. refl))
+    (λ reads. c.steps.invariant.same reads ∙ ended old.code.now None (BUDGET - before.counted) (open_loops old) before.at (state_of old before reads) (ap (λ (l : List Instruction). slice_get l before.at) (sym c.steps.invariant.code) ∙ c.in_default.ensures) (λ onward out. refl))
 
-pub returns-in_default-innermost-clause-leads : goal.returns-in_default-innermost-clause-leads
-returns-in_default-innermost-clause-leads c =
+pub returns-in_default-inner-clause-leads : goal.returns-in_default-inner-clause-leads
+returns-in_default-inner-clause-leads c =
     let old = c.steps.self in
     let before = c.steps.progress in
     let there : Stands old.code.now before.at instruction.Turn = ap (λ (l : List Instruction). slice_get l before.at) (sym c.steps.invariant.code) ∙ c.in-Some.ensures ∙ ap Some c.in-Turn.is in
-    stopped (outcome_from c.args.self.now c.args.self.now.progress) old c.stop-in_default-innermost.new.self before Ended c.stop-in_default-innermost.result c.stop-in_default-innermost.ensures
-    (λ reads. c.steps.invariant.same reads
-    ∙ ap (λ (l : List Loop). executed (BUDGET - before.counted) old.code.now (reverse l) before.at (state_of old before reads)) c.in_default-innermost.ensures
-    ∙ none_open old.code.now before.at there (BUDGET - before.counted) (state_of old before reads))
+    stopped (outcome_from c.args.self.now c.args.self.now.progress) old c.stop-in_default-inner.new.self before Ended c.stop-in_default-inner.result c.stop-in_default-inner.ensures
+    (λ reads. c.steps.invariant.same reads ∙ none_open old before there reads c.in_default-inner.is)
 
 pub steps-preserved-then-innermost : goal.steps-preserved-then-innermost
 steps-preserved-then-innermost c =
     let old = c.steps.self in
     let before = c.steps.progress in
-    let innermost = c.in-Some-innermost.innermost in
-    let place = length old.loops.items - 1 in
+    let innermost = c.in-Some-inner.innermost in
     let there : Stands old.code.now before.at instruction.Turn = ap (λ (l : List Instruction). slice_get l before.at) (sym c.steps.invariant.code) ∙ c.in-Some.ensures ∙ ap Some c.in-Turn.is in
-    let rest : c.pop.new.self.items ≡ take place old.loops.items = search rules in
     let none : int_lt innermost.next innermost.to ≡ false = search rules in
     record {
       same = λ reads. c.steps.invariant.same reads
-          ∙ over old.code.now before.at there old.loops.items innermost place refl c.in-Some-innermost.ensures (BUDGET - before.counted) (state_of old before reads) none
-          ∙ ap (λ (l : List Loop). executed (BUDGET - before.counted) old.code.now (reverse l) innermost.after (state_of old before reads)) (sym rest);
+          ∙ over old before there reads innermost c.in-Some-inner.is c.pop-self.result c.pop-self.new.self none (left_one _ _ _ c.pop-self.ensures.items (search rules));
       code = c.steps.invariant.code;
     }
 
@@ -55,27 +49,25 @@ pub returns-then-not-count-clause-leads : goal.returns-then-not-count-clause-lea
 returns-then-not-count-clause-leads c =
     let old = c.steps.self in
     let before = c.steps.progress in
-    let innermost = c.in-Some-innermost.innermost in
+    let innermost = c.in-Some-inner.innermost in
     let there : Stands old.code.now before.at instruction.Turn = ap (λ (l : List Instruction). slice_get l before.at) (sym c.steps.invariant.code) ∙ c.in-Some.ensures ∙ ap Some c.in-Turn.is in
     let below : int_lt innermost.next innermost.to ≡ true = search rules in
     stopped (outcome_from c.args.self.now c.args.self.now.progress) old c.stop-then-not-count.new.self c.count.new.self (Failed Budget) c.stop-then-not-count.result c.stop-then-not-count.ensures
     (λ reads. c.steps.invariant.same reads
-    ∙ spent old.code.now before.at there old.loops.items innermost (length old.loops.items - 1) refl c.in-Some-innermost.ensures (BUDGET - before.counted) (state_of old before reads) below
-    (sym c.count.ensures.counted ∙ c.if-not-count.true))
+    ∙ spent old before there reads innermost c.in-Some-inner.is below (sym c.count.ensures.counted ∙ c.if-not-count.true))
 
 pub steps-preserved-in-Turn : goal.steps-preserved-in-Turn
 steps-preserved-in-Turn c =
     let old = c.steps.self in
     let before = c.steps.progress in
-    let innermost = c.in-Some-innermost.innermost in
+    let innermost = c.in-Some-inner.innermost in
     let there : Stands old.code.now before.at instruction.Turn = ap (λ (l : List Instruction). slice_get l before.at) (sym c.steps.invariant.code) ∙ c.in-Some.ensures ∙ ap Some c.in-Turn.is in
     let below : int_lt innermost.next innermost.to ≡ true = search rules in
     let one = ap (λ (p : Progress). p.counted) c.count.ensures.one ∙ ap (λ (b : Bool). if b then suc before.counted else before.counted) c.if-not-count.false in
     record {
       same = λ reads. c.steps.invariant.same reads
-          ∙ leads_on old c.turn.new.self before innermost c.count.new.self.counted (record { loops = c.turn.ensures.loops; variables = c.turn.ensures.variables; same = c.turn.ensures.same; one = one })
-          there c.in-Some-innermost.ensures below (sym c.count.ensures.counted ∙ c.if-not-count.false) reads;
-      code = c.steps.invariant.code ∙ ap (λ (b : Bor (List Instruction)). b.now) (sym c.turn.ensures.same.0);
+          ∙ turned_on old before there reads innermost c.in-Some-inner.is c.turn.new.self c.count.new.self.counted below (sym c.count.ensures.counted ∙ c.if-not-count.false) one c.turn.ensures;
+      code = c.steps.invariant.code ∙ ap (λ (m : Machine). m.code.now) (sym c.turn.ensures);
     }
 
 pub returns-then-not-count-2-clause-leads : goal.returns-then-not-count-2-clause-leads
@@ -133,7 +125,7 @@ steps-preserved-in-Ok-evaluate c =
       same = λ reads. c.steps.invariant.same reads
           ∙ made old before after c.count-in-Branch.result c.count-in-Branch.ensures.counted one there (λ state onward out. refl) c.if-not-count-3.false c.count-in-Branch.ensures.one reads
           ∙ given_ok _ c.in-Ok-evaluate.value _ _ (sym c.in-Ok-evaluate.ensures)
-          ∙ ap (λ (n : ℕ). executed (BUDGET - after.counted) old.code.now (reverse old.loops.items) n (state_of old after reads)) (sym next);
+          ∙ ap (λ (n : ℕ). executed (BUDGET - after.counted) old.code.now (open_loops old) n (state_of old after reads)) (sym next);
       code = c.steps.invariant.code;
     }
 
