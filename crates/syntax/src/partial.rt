@@ -77,6 +77,10 @@ impl<'a> Level<'a> {
     fn whole(&mut self, alloc: Global, product: Operand<'a>) -> Result<Operand<'a>, AllocError>
         ensures { IfOk result (EndsLevel self.old product.entry) }
     {
+        // Most levels have no operand that waits.
+        if self.sum.is_none() && self.comparison.is_none() {
+            return Ok(product);
+        }
         let sum = joined(alloc, self.sum.take(), product)?;
         joined(alloc, self.comparison.take(), sum)
     }
@@ -150,6 +154,10 @@ impl<'a> Partial<'a> {
     fn product(&mut self, alloc: Global, operand: Operand<'a>) -> Result<Operand<'a>, AllocError>
         ensures { IfOk result (EndsOperand self.old operand.entry self.new) }
     {
+        // Most operands have no minus sign, and none that waits.
+        if self.level.negations == 0 && self.level.product.is_none() {
+            return Ok(operand);
+        }
         let operand = operand.negated(alloc, self.level.negations)?;
         self.level.negations = 0;
         joined(alloc, self.level.product.take(), operand)
