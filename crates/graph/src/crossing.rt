@@ -5,13 +5,15 @@
 
 ghost use denote.Param.Send.{IsSend, IsSync};
 ghost use Rattle.steptree.specs.contracts.checked.Checked as of_body;
+ghost use Rattle.steptree.specs.contracts.code.Formula as of_formula;
+ghost use Rattle.steptree.specs.contracts.code.Instruction as of_instruction;
 ghost use Rattle.graph.specs.contracts.graph.Graph as of_graph;
 ghost use Rattle.graph.specs.contracts.graph.Prescribed as of_step;
 ghost use Rattle.graph.specs.contracts.numbered.Numbered as of_names;
 
 use crate::graph::Prescribed;
 use indexmap::IndexMap;
-use steptree::{Block, Body, Code, Components, Expression, Formula, Instruction, Statement};
+use steptree::{Block, Body, Code, Components, Expression, Formula, Instruction, Link, Statement};
 use terms::{StepCollection, TagCollection};
 
 /// Gives its caller the clause that trait search finds for a type.
@@ -40,6 +42,44 @@ fn names_are_shared<V: Sync>()
     is_shared::<IndexMap<String, V>>();
 }
 
+/// An expression in the form in which it is evaluated.
+fn formulas_go()
+    ensures { IsSend of_formula.the_row }
+{
+    goes::<Expression>();
+    goes::<Vec<Link>>();
+    goes::<Formula>();
+}
+
+/// The same for sharing between threads.
+fn formulas_are_shared()
+    ensures { IsSync of_formula.the_row }
+{
+    is_shared::<Expression>();
+    is_shared::<Vec<Link>>();
+    is_shared::<Formula>();
+}
+
+/// An instruction.
+fn instructions_go()
+    ensures { IsSend of_instruction.the_row }
+{
+    goes::<Expression>();
+    goes::<Components>();
+    formulas_go();
+    goes::<Instruction>();
+}
+
+/// The same for sharing between threads.
+fn instructions_are_shared()
+    ensures { IsSync of_instruction.the_row }
+{
+    is_shared::<Expression>();
+    is_shared::<Components>();
+    formulas_are_shared();
+    is_shared::<Instruction>();
+}
+
 /// The body of a step, with its code.
 fn bodies_go()
     ensures { IsSend of_body.the_row }
@@ -48,8 +88,7 @@ fn bodies_go()
     goes::<Components>();
     goes::<Statement>();
     goes::<Block>();
-    goes::<Formula>();
-    goes::<Instruction>();
+    instructions_go();
     goes::<Body>();
     goes::<Code>();
     goes::<Vec<String>>();
@@ -63,8 +102,7 @@ fn bodies_are_shared()
     is_shared::<Components>();
     is_shared::<Statement>();
     is_shared::<Block>();
-    is_shared::<Formula>();
-    is_shared::<Instruction>();
+    instructions_are_shared();
     is_shared::<Body>();
     is_shared::<Code>();
     is_shared::<Vec<String>>();
