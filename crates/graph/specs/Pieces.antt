@@ -69,7 +69,7 @@ bounds_text g names from to = expression_text g names from ++ codes " .. " ++ ex
 abbrev pub section_text : Graph → List Text → Text → Block → Text
 section_text g names title block = line 1 title ++ block_text g names 2 block ++ line 1 (codes "}")
 
--- what was added to the text is the statement: with any block after it, it is the block that begins with the statement
+-- a statement was written: with the text of any block after it, this is the text of the block that begins with the statement
 abbrev pub WritesStatement : {X E : Type 0} → Result X E → Vec ℕ Global → Vec ℕ Global → Words → ℕ → NumberedStatement → Type 0
 WritesStatement result old new words level statement =
     OnOk result ((rest : Block) → new.items ++ in_words words block_text level rest ≡ old.items ++ in_words words block_text level (stated statement rest))

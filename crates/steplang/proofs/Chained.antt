@@ -33,10 +33,11 @@ module _ (variables : List ℤ) where
   same_value before other [] same = same
   same_value before other (one ∷ links) same = same_value (linked before one) (linked other one) links (same_link before other one (value_of other variables) same refl)
 
-  -- a formula goes on with a value, or ends in the fault
+  -- a chain goes on with the value of what it begins with
   pub goes_on : (before : Expression) (links : List Link) (value : ℤ) → value_of before variables ≡ Ok value → value_of (chained before links) variables ≡ value_of (chained (Number value) links) variables
   goes_on before links value is = same_value before (Number value) links is
 
+  -- or ends in its fault
   pub faults : (before : Expression) (links : List Link) (kind : FaultKind) → value_of before variables ≡ Err kind → value_of (chained before links) variables ≡ Err kind
   faults before [] kind is = is
   faults before (one ∷ links) kind is = faults (linked before one) links kind (linked_fault before one kind is)

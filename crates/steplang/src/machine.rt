@@ -10,7 +10,7 @@ ghost use Rattle.steplang.specs.Machine.{outcome_from, outcome_of_put, GetsValue
 
 use crate::value::{Variables, evaluate, evaluate_expression, evaluate_key, variables_of};
 use std::alloc::{AllocError, Global};
-use steptree::{BUDGET, Checked, Components, Expression, Formula, Instruction, Loop, Slot};
+use steptree::{BUDGET, Checked, Components, Expression, Instruction, Loop, Slot};
 use terms::{Addr, FaultKind, ItemCollection, Key, MOST_PUTS, Put, Tag, TagCollection};
 
 /// The result of a step. It is small, since each statement returns one.
@@ -71,7 +71,7 @@ pub(crate) struct Machine<'a> {
     /// How far it was when it stopped last.
     pub(crate) progress: Progress,
     pub(crate) variables: Variables,
-    /// The innermost loop that is open.
+    /// The innermost open loop, if a loop is open.
     pub(crate) inner: Option<Loop>,
     /// The loops around it, the innermost of them last. They mean nothing while no loop is open.
     pub(crate) around: Vec<Loop>,
@@ -113,7 +113,6 @@ impl<'a> Machine<'a> {
         };
         self.variables = variables_of(key);
         self.inner = None;
-        self.around.clear();
         self.puts.clear();
     }
 

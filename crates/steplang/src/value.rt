@@ -1,4 +1,4 @@
-ghost use Rattle.std.specs.Prelude.{◌≡◌, ◌-◌, ◌++◌, pos, replicate, Ok, Err, List, ℤ, length, IfSome, IfNone, IfOk, OnOk};
+ghost use Rattle.std.specs.Prelude.{◌≡◌, ◌-◌, ◌++◌, pos, replicate, Ok, Err, length, IfSome, IfNone};
 ghost use Rattle.steptree.specs.declared.expression.Operator.TheVariants.{Add, Subtract, Divide, Remainder};
 ghost use Rattle.steptree.specs.Values.{operated, value_of, values_of};
 ghost use Rattle.steptree.specs.Tree.{Number};
@@ -60,8 +60,7 @@ pub(crate) fn evaluate(formula: &Formula, variables: &Variables) -> Result<i64, 
     }
 }
 
-// Evaluates a formula of more than two operations in a row. The result of the call has a place of its own in memory, which
-// the shorter ones do not clear.
+// Calls `evaluate_long`. Its result gets a place of its own in memory, so that the shorter formulas need not clear one.
 #[inline(always)]
 fn long(formula: &Formula, variables: &Variables) -> Result<i64, FaultKind>
     requires { IsLong formula.now }

@@ -2,7 +2,7 @@ mod Chained
 mod Coded
 mod FirstFaults
 mod Follows
-pub mod Joining
+mod Joining
 mod Kept
 mod Lists
 mod Places

@@ -1,5 +1,5 @@
 -- The statements of a block, resolved one after another.
-use Rattle.std.proofs.Common.{◌≡◌, ◌<◌, ℕ, ◌+◌, List, [], ◌∷◌, ◌++◌, length, drop, get_or, refl, sym, ap, subst, ◌∙◌, arith, append_assoc}
+use Rattle.std.proofs.Common.{◌≡◌, ◌<◌, ℕ, ◌+◌, List, [], ◌∷◌, ◌++◌, length, drop, get_or, sym, ap, subst, ◌∙◌, arith, append_assoc}
 use Rattle.steptree.specs.declared.checker.CheckFault.{CheckFault}
 use Rattle.steptree.specs.Tree.{Block, NamedBlock, End}
 use Rattle.steptree.specs.SeenBlocks.{NumberedStatement, NamedStatement, stated, joined}
@@ -11,7 +11,7 @@ use Rattle.steptree.specs.Sheet.{KeepsTo}
 use Rattle.steptree.specs.Statements.{IsFirst, IsStatement}
 use Rattle.steptree.proofs.FirstFaults.{in_front}
 use Rattle.steptree.proofs.Joining.{joined_last, from_index}
-use Rattle.steptree.proofs.Lists.{past, with_none, empty_in_front}
+use Rattle.steptree.proofs.Lists.{with_none, empty_in_front}
 
 module _ (names : List Text) (sheet : Nameable) where
   -- the faults of a block are those of its first statement, and then the others
@@ -24,9 +24,6 @@ module _ (names : List Text) (sheet : Nameable) where
       pub resolves : (rest : Block) → IsBlock names sheet (joined (drop index statements) End) rest → IsBlock names sheet (joined statements End) (joined resolved rest)
       pub keeps : (rest : Block) → KeepsTo sheet rest → KeepsTo sheet (joined resolved rest)
       pub no_fault : block_faults names sheet (joined statements End) ≡ block_faults names sheet (joined (drop index statements) End)
-
-    pub none_yet : SoFar 0 []
-    none_yet = record { resolves = λ rest are. are; keeps = λ rest kept. kept; no_fault = refl }
 
     module _ (index : ℕ) (resolved : List NumberedStatement) (this : NamedStatement) (within : index < length statements) (is : this ≡ get_or statements index this) (so_far : SoFar index resolved) where
       faults_from : block_faults names sheet (joined statements End) ≡ block_faults names sheet (stated this End) ++ block_faults names sheet (joined (drop (index + 1) statements) End)
@@ -43,10 +40,3 @@ module _ (names : List Text) (sheet : Nameable) where
 
       pub first_here : (fault : CheckFault) → IsFirst (block_faults names sheet (stated this End)) fault → IsFirst (block_faults names sheet (joined statements End)) fault
       first_here fault first = subst (λ (l : List CheckFault). IsFirst l fault) (sym faults_from) (in_front (block_faults names sheet (stated this End)) _ fault first)
-
-    module _ (index : ℕ) (resolved : List NumberedStatement) (all : index ≡ length statements) (so_far : SoFar index resolved) where
-      pub all_resolved : IsBlock names sheet (joined statements End) (joined resolved End)
-      all_resolved = so_far.resolves End (subst (λ (l : List NamedStatement). IsBlock names sheet (joined l End) End) (sym (past statements index all)) tt)
-
-      pub none_at_fault : block_faults names sheet (joined statements End) ≡ []
-      none_at_fault = so_far.no_fault ∙ ap (λ (l : List NamedStatement). block_faults names sheet (joined l End)) (past statements index all)

@@ -30,12 +30,13 @@ operand_of (operand.Variable slot) = Variable slot
 abbrev pub pair_of : Pair → Expression
 pair_of pair = Operation pair.operator (operand_of pair.left) (operand_of pair.right)
 
--- what a link makes of the expression before it, and several one after another
+-- the operation that a link makes of an expression: of `a * b`, `Before Subtract c` makes `a * b - c`
 abbrev pub linked : Expression → Link → Expression
 linked before (link.Before between right) = Operation between before (operand_of right)
 linked before (link.After between left) = Operation between (operand_of left) before
 linked before (link.BeforePair between right) = Operation between before (pair_of right)
 
+-- what links make of an expression, one after another
 abbrev pub chained : Expression → List Link → Expression
 chained before [] = before
 chained before (first ∷ others) = chained (linked before first) others

@@ -16,7 +16,7 @@ abbrev pub NamedStatement : Type 0
 NamedStatement = Statement Name Name Name (Vec NamedExpression)
 
 module _ {V I T C : Type 0} where
-  -- a statement, and the statements after it; the blocks inside it are trees already
+  -- the tree that begins with this statement and goes on with `rest`; the blocks inside the statement are trees already
   abbrev pub stated : Statement V I T C → BlockTree V I T C → BlockTree V I T C
   stated (statement.Assign variable value) rest = Assign variable value rest
   stated (statement.If condition first second) rest = If condition first second rest
@@ -25,10 +25,11 @@ module _ {V I T C : Type 0} where
   stated (statement.PutItem collection components value) rest = PutItem collection components value rest
   stated (statement.PutTag collection components) rest = PutTag collection components rest
 
-  -- statements one after another, and a block after them
+  -- the tree of these statements, one after another, and then `rest`
   abbrev pub joined : List (Statement V I T C) → BlockTree V I T C → BlockTree V I T C
   joined [] rest = rest
   joined (first ∷ others) rest = stated first (joined others rest)
 
+  -- the tree of a block
   abbrev pub block_seen : List (Statement V I T C) → BlockTree V I T C
   block_seen statements = joined statements End

@@ -1,4 +1,4 @@
--- Expressions and blocks as trees, wherever the boxes that hold their parts lie in memory: with slots and numbers, or with names.
+-- Expressions and blocks as trees, wherever their parts lie in memory: with slots and numbers, or with names.
 use Rattle.std.specs.Prelude.{◌+◌, ℕ, suc, ℤ, List}
 use Rattle.std.specs.Global.{Vec}
 use Rattle.terms.specs.declared.name.ItemCollection.{ItemCollection}

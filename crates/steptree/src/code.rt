@@ -16,7 +16,7 @@ pub struct Pair {
     pub right: Operand,
 }
 
-/// What is done with a value: one more operation.
+/// One more operation, on a value.
 #[derive(Clone, Copy, Debug)]
 pub enum Link {
     /// The value is the left operand.
@@ -51,7 +51,7 @@ pub enum Formula {
     SecondThen(Operator, Operator, Operand, Pair, Operand),
     /// An operation on two pairs.
     Both(Operator, Pair, Pair),
-    /// A pair, and links one after another.
+    /// An operation on two operands, and more operations on its value, one after another.
     Chain(Pair, Vec<Link>),
     /// Any other expression.
     Deep(Expression),

@@ -1,7 +1,7 @@
 //! Makes bodies into code.
 //!
 //! Statements are compiled from the last to the first, so that each knows the place where it goes on.
-ghost use Rattle.std.specs.Prelude.{◌≡◌, IfOk, MatchOption};
+ghost use Rattle.std.specs.Prelude.{IfOk};
 ghost use Rattle.steptree.specs.Tree as tree;
 ghost use Rattle.steptree.specs.Executed.{Performs};
 ghost use Rattle.steptree.specs.Compiled.{Compiles, CompilesItemPut, CompilesLoop, IsCode, Keeps, Stands};
@@ -48,7 +48,7 @@ fn compile_block(
     Ok(at)
 }
 
-// Adds the code of a statement, whose block goes on at `next`.
+// Adds the code of a statement, after which the code goes on at `next`. The result is the place where it begins.
 #[cycle(compile)]
 fn compile_statement(
     alloc: Global,

@@ -20,7 +20,7 @@ use Rattle.syntax.specs.Expected.{Part, reading, writing, Expected, keyword, sta
 use Rattle.syntax.specs.Front.{front_of}
 use Rattle.syntax.specs.Blocks.{IsAssignment}
 use Rattle.syntax.specs.Parsed.{Reads, Tells, Stops, named_of}
-use Rattle.syntax.specs.Statements.{Own, own_pieces, own_limits, is_own, Begins, assignment_expected, choice_expected, repetition_expected, own_expected, IsFirst, IsStatementRead, IsChoiceRead}
+use Rattle.syntax.specs.Statements.{Own, own_pieces, own_limits, is_own, Begins, assignment_expected, choice_expected, repetition_expected, own_expected, IsStatementOf, IsStatementRead, IsChoiceRead}
 use Rattle.syntax.specs.Statements.{IsConditionRead, IsNestedRead, Second, second_pieces, second_limits, IsSecond, IsSecondRead, NoneBegins, statements_of, StatementsSoFar, AreRead}
 use Rattle.syntax.proofs.Moves.{◌⨟◌, reads_on}
 use Rattle.syntax.proofs.KeyParts.{flat_more, flat_none, all_more}
@@ -87,7 +87,7 @@ next_statement part around start now after trees tree so_far one = record {
   read = so_far.read ++ one.statement ∷ [];
   reads = subst (λ pieces. Reads (statements part around ∷ []) (statements part around ∷ []) pieces start after) (sym (flat_more (statement_pieces (own_pieces part)) so_far.read one.statement))
       (reads_on [] so_far.reads one.reads);
-  are = all_more (IsFirst part) so_far.read trees one.statement tree so_far.are one.is;
+  are = all_more (IsStatementOf part) so_far.read trees one.statement tree so_far.are one.is;
   within = flat_none (statement_limits (own_limits part) around) so_far.read one.statement so_far.within one.within;
 }
 
@@ -109,7 +109,7 @@ statement_weaker : (part : Part) (statement : Statement (Own part)) (tree : Name
     → IsStatement (is_own part) statement tree P → IsStatement (is_own part) statement tree Q
 statement_weaker part statement tree P Q weaker is = grind (arith, own_weaker)
 
-are_joined : (part : Part) (read : List (Statement (Own part))) (trees : List NamedStatement) → AreAll (IsFirst part) read trees → AreStatements (is_own part) (statements_of read) (joined trees block.End)
+are_joined : (part : Part) (read : List (Statement (Own part))) (trees : List NamedStatement) → AreAll (IsStatementOf part) read trees → AreStatements (is_own part) (statements_of read) (joined trees block.End)
 are_joined part [] trees are = grind arith
 are_joined part (first ∷ read) [] are = absurd are
 are_joined part (first ∷ read) (tree ∷ trees) are = statement_weaker part first _ (λ other. other ≡ joined trees block.End) (AreStatements (is_own part) (statements_of read))

@@ -89,15 +89,15 @@ own_expected part = keyword (own_word part) ∷ own_rest part
 abbrev pub assignment_expected : List Expected
 assignment_expected = a_name ∷ assignment_rest
 
--- the statement of the tree is this one, whatever follows it
-abbrev pub IsFirst : (part : Part) → Statement (Own part) → NamedStatement → Type 0
-IsFirst part statement tree = (rest : NamedBlock) → IsStatement (is_own part) statement (stated tree rest) (λ other. other ≡ rest)
+-- the statement of the program is this one of the grammar, whatever follows it
+abbrev pub IsStatementOf : (part : Part) → Statement (Own part) → NamedStatement → Type 0
+IsStatementOf part statement tree = (rest : NamedBlock) → IsStatement (is_own part) statement (stated tree rest) (λ other. other ≡ rest)
 
 -- one statement, with `around` braces around it
 pub record IsStatementRead (part : Part) (around : ℕ) (expected more : List Expected) (tree : NamedStatement) (before after : List Spot) : Type 0 where
   pub statement : Statement (Own part)
   pub reads : Reads expected more (statement_pieces (own_pieces part) statement) before after
-  pub is : IsFirst part statement tree
+  pub is : IsStatementOf part statement tree
   pub within : statement_limits (own_limits part) around statement ≡ []
 
 -- an assignment, which each part has, a statement that only this part has, a choice and a repetition
@@ -186,7 +186,7 @@ statements_of (first ∷ more) = and_then first (statements_of more)
 pub record StatementsSoFar (part : Part) (around : ℕ) (start now : List Spot) (trees : List NamedStatement) : Type 0 where
   pub read : List (Statement (Own part))
   pub reads : Reads (statements part around ∷ []) (statements part around ∷ []) (flat_map (statement_pieces (own_pieces part)) read) start now
-  pub are : AreAll (IsFirst part) read trees
+  pub are : AreAll (IsStatementOf part) read trees
   pub within : flat_map (statement_limits (own_limits part) around) read ≡ []
 
 -- the statements of a block, with `around` braces around them

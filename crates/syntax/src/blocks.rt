@@ -1,5 +1,5 @@
 //! Blocks: statements one after another, and the blocks inside them.
-ghost use Rattle.std.specs.Prelude.{◌≡◌, ◌<◌, ◌≤◌, ◌∷◌, [], length, IfSome, IfOk, IfErr, OnOk};
+ghost use Rattle.std.specs.Prelude.{◌<◌, ◌≤◌, ◌∷◌, [], length, IfSome, IfOk, IfErr, OnOk};
 ghost use Rattle.syntax.specs.declared.limits.TheConstants.{MOST_BRACES};
 ghost use Rattle.syntax.specs.Expected.{statements as some_statements, nested_brace, nested as nested_rest, or_else};
 ghost use Rattle.syntax.specs.Parsed.{left, Stops};

@@ -77,7 +77,7 @@ impl<'a> Level<'a> {
     fn whole(&mut self, alloc: Global, product: Operand<'a>) -> Result<Operand<'a>, AllocError>
         ensures { IfOk result (EndsLevel self.old product.entry) }
     {
-        // Most levels have no operand that waits.
+        // In most levels no operand waits.
         if self.sum.is_none() && self.comparison.is_none() {
             return Ok(product);
         }
@@ -154,7 +154,7 @@ impl<'a> Partial<'a> {
     fn product(&mut self, alloc: Global, operand: Operand<'a>) -> Result<Operand<'a>, AllocError>
         ensures { IfOk result (EndsOperand self.old operand.entry self.new) }
     {
-        // Most operands have no minus sign, and none that waits.
+        // Most operands have no minus sign in front, and no operand waits for them.
         if self.level.negations == 0 && self.level.product.is_none() {
             return Ok(operand);
         }

@@ -213,6 +213,7 @@ fn tell(state: &mut Plain, block: &Block) -> Result<(), Halt> {
     Ok(())
 }
 
+// Carries out a statement.
 fn tell_one(state: &mut Plain, statement: &Statement) -> Result<(), Halt> {
     match statement {
         Statement::Assign { variable, value } => state.assign(*variable, value),

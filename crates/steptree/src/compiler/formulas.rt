@@ -37,7 +37,8 @@ fn shallow(expression: &Expression) -> Option<Formula>
     nested_then(expression)
 }
 
-// A pair and the links after it, if each operation but the innermost one has an operand that is small.
+// The chain of an expression, if it is one: its innermost operation is a pair, and each other one has a number or a variable
+// as an operand, or a pair as the right one.
 #[tactic(auto, using(crate::proofs::Chained::one_more))]
 fn chain(alloc: Global, expression: &Expression) -> Result<Option<(Pair, Vec<Link>)>, AllocError>
     ensures { IfOk result (λ found. IfSome found (λ parts. chained (pair_of parts.0) parts.1.items ≡ expression.now)) }
@@ -57,7 +58,8 @@ fn chain(alloc: Global, expression: &Expression) -> Result<Option<(Pair, Vec<Lin
     }
 }
 
-// The part of an operation that is evaluated first, and what is done with its value. The other operand has to be small.
+// Splits an operation into one of its operands and the link that makes the operation of it. The other operand is a number
+// or a variable, or a pair on the right.
 fn split(expression: &Expression) -> Option<(&Expression, Link)>
     ensures linked { IfSome result (λ parts. linked parts.0.now parts.1 ≡ expression.now) }
     ensures smaller { IfSome result (λ parts. expression_size parts.0.now < expression_size expression.now) }

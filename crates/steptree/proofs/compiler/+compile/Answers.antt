@@ -1,6 +1,6 @@
 use Rattle.std.proofs.Common.{◌<◌, ◌-◌, length, ap, arith}
 use Rattle.steptree.specs.Tree.{block_size}
-use Rattle.steptree.proofs.Joining.{no_larger}
+use Rattle.steptree.specs.BlocksFall.{no_larger}
 use Rattle.steptree.proofs.Coded.{stays, keeps_on}
 use Rattle.steptree.proofs.compiler.+compile.Goals as goal
 

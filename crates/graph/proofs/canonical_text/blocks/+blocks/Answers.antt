@@ -1,7 +1,7 @@
 use Rattle.std.proofs.Common.{List, ap, ◌∙◌, arith}
 use Rattle.steptree.specs.Tree.{block_size}
 use Rattle.steptree.specs.SeenBlocks.{NumberedStatement, block_seen}
-use Rattle.steptree.proofs.Joining.{no_larger}
+use Rattle.steptree.specs.BlocksFall.{no_larger}
 use Rattle.graph.proofs.Written.{longer_behind}
 use Rattle.graph.proofs.canonical_text.blocks.+blocks.Goals as goal
 

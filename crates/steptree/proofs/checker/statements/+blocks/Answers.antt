@@ -4,7 +4,7 @@ use Rattle.steptree.specs.Tree.{block_size}
 use Rattle.steptree.specs.SeenBlocks.{NamedStatement, block_seen}
 use Rattle.steptree.specs.Statements.{texts}
 use Rattle.steptree.proofs.FirstFaults.{passed_on}
-use Rattle.steptree.proofs.Joining.{no_larger}
+use Rattle.steptree.specs.BlocksFall.{no_larger}
 use Rattle.steptree.proofs.Statements.{one_more, first_here}
 use Rattle.steptree.proofs.checker.statements.+blocks.Goals as goal
 
