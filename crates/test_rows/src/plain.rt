@@ -206,6 +206,7 @@ fn append<T: Copy>(list: &mut Vec<T>, value: T) -> Result<(), AllocError> {
 }
 
 // Carries out a block, statement after statement.
+#[cycle(tell)]
 fn tell(state: &mut Plain, block: &Block) -> Result<(), Halt> {
     for statement in &block.statements {
         tell_one(state, statement)?;
@@ -214,6 +215,7 @@ fn tell(state: &mut Plain, block: &Block) -> Result<(), Halt> {
 }
 
 // Carries out a statement.
+#[cycle(tell)]
 fn tell_one(state: &mut Plain, statement: &Statement) -> Result<(), Halt> {
     match statement {
         Statement::Assign { variable, value } => state.assign(*variable, value),
