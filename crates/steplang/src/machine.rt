@@ -1,4 +1,4 @@
-ghost use Rattle.std.specs.Prelude.{◌≡◌, ◌≢◌, ◌<ℤ◌, slice_get, slice_set, Ok, suc, nat_lt, if◌then◌else◌, IfOk, OnOk, MatchOption, None, Some, ◌∷◌, pos};
+ghost use Rattle.std.specs.Prelude.{◌≡◌, ◌≢◌, ◌<ℤ◌, slice_get, slice_set, Ok, suc, nat_lt, if◌then◌else◌, IfOk, OnOk, OnErr, MatchOption, None, Some, ◌∷◌, pos};
 ghost use Rattle.std.specs.Ordering.{int_eq};
 ghost use Rattle.steptree.specs.declared.body.TheConstants.{BUDGET};
 ghost use Rattle.steptree.specs.declared.code.Instruction.TheVariants as instruction;
@@ -240,6 +240,7 @@ impl<'a> Machine<'a> {
     #[inline(always)]
     fn enter(&mut self, innermost: Loop) -> Result<(), AllocError>
         ensures loops { OnOk result (open_loops self.new ≡ innermost ∷ open_loops self.old) }
+        ensures refused { OnErr result (open_loops self.new ≡ open_loops self.old) }
         ensures same { self.new ≡ record self.old { inner = self.new.inner; around = self.new.around } }
     {
         match self.inner {
