@@ -5,7 +5,8 @@ use std::alloc::{AllocError, Global};
 use std::io::Print;
 use std::time::{Clock, Instant};
 use steplang::{
-    Block, Body, Checked, Components, Expression, Node, Operator, Run, Slot, Statement, Turn,
+    Block, Body, Checked, Components, Expression, Node, Operator, Run, Simple, Slot, Statement,
+    Turn,
 };
 use terms::{Inst, ItemCollection, Key, StepCollection};
 
@@ -70,11 +71,11 @@ fn sum(alloc: Global) -> Result<Checked, AllocError> {
 
 // put [0] = a;
 fn put_of(alloc: Global) -> Statement {
-    Statement::PutItem {
+    Statement::Simple(Simple::PutItem {
         collection: ItemCollection(0),
         components: Components::new(Vec::new(alloc)),
         value: variable(total()),
-    }
+    })
 }
 
 // for b in 0 .. k { a = (a + b); }
@@ -94,12 +95,12 @@ fn loop_of(alloc: Global) -> Result<Statement, AllocError> {
 // a = (a + b);
 fn add_of(alloc: Global) -> Result<Statement, AllocError> {
     let operands = Box::new(alloc, (variable(total()), variable(turn())))?;
-    Ok(Statement::Assign {
+    Ok(Statement::Simple(Simple::Assign {
         variable: total(),
         value: Expression {
             node: Node::Operation(Operator::Add, operands),
         },
-    })
+    }))
 }
 
 // The variable a.

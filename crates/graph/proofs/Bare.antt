@@ -1,5 +1,5 @@
 -- Trees of one derivation differ only in where their parts are in memory; without that they are one, and they have the same faults.
-use Rattle.std.proofs.Common.{◌≡◌, Bool, true, List, [], ◌∷◌, ◌++◌, length, map, Option, Some, None, if◌then◌else◌, refl, sym, ap, ◌∙◌, arith}
+use Rattle.std.proofs.Common.{◌≡◌, Bool, true, List, [], ◌∷◌, ◌++◌, length, map, Option, Some, None, refl, sym, ap, ◌∙◌, arith, if◌then◌else◌}
 use Rattle.std.specs.List.{list_any}
 use Rattle.std.proofs.lemmas.List.{map-append, length-map}
 use Rattle.steptree.specs.declared.step.Name.{Name}
@@ -12,8 +12,8 @@ use Rattle.syntax.specs.declared.tree.Relation.{Relation as Relating}
 use Rattle.syntax.specs.declared.tree.Relation.TheVariants as related
 use Rattle.syntax.specs.declared.tree.Tree.{Tree}
 use Rattle.syntax.specs.Grammar.{Named, Declaration, item_declared, tag_declared, Relation, prescribes, reads, puts_item, puts_tag, environment_puts_item, environment_puts_tag, environment_gets, StepText, GraphText}
-use Rattle.syntax.specs.Limits.{all_names}
-use Rattle.syntax.specs.Tree.{IsName, AreAll, IsDeclaration, IsRelation, IsStep, IsTree}
+use Rattle.syntax.specs.GraphTexts.{all_names, IsDeclaration, IsRelation, IsStep, IsTree}
+use Rattle.syntax.specs.Tree.{IsName, AreAll}
 use Rattle.graph.specs.declared.fault.GraphError.TheVariants as error
 use Rattle.graph.specs.Collected.{of_name}
 use Rattle.graph.specs.Tree.{text_of, items_of, tags_of, step_names, is_name, is_read, is_item_put, is_tag_put, each_of, prescriber_of, sheet_in}

@@ -29,3 +29,5 @@ pub mod SmallTrees
 mod Written
 mod Seen
 mod ParsedTexts
+mod OwnStatements
+mod SameGraphs

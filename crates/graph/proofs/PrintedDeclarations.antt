@@ -8,9 +8,10 @@ use Rattle.syntax.specs.declared.token.Word.{Word}
 use Rattle.syntax.specs.declared.token.Word.TheVariants as kept
 use Rattle.syntax.specs.Tokens.{is_letter, word_text}
 use Rattle.syntax.specs.Grammar.{Named, Names, Position, Declaration, item_declared, tag_declared}
-use Rattle.syntax.specs.Spelled.{named, names_pieces, after_colon, parameters_pieces, variables_pieces, Piece, declaration_pieces, plain}
-use Rattle.syntax.specs.Limits.{name_limits, names_behind, all_names, declared_limits, declarations_limits}
-use Rattle.syntax.specs.Tree.{IsName, AreAll, IsDeclaration}
+use Rattle.syntax.specs.Spelled.{named, Piece, plain}
+use Rattle.syntax.specs.GraphTexts.{names_pieces, after_colon, parameters_pieces, variables_pieces, declaration_pieces, all_names, declared_limits, declarations_limits, IsDeclaration}
+use Rattle.syntax.specs.Limits.{name_limits, names_behind}
+use Rattle.syntax.specs.Tree.{IsName, AreAll}
 use Rattle.graph.specs.Textual.{IsGraphName}
 use Rattle.graph.specs.Canonical.{joined, with_colon, letters, component_names, variables_line, in_brackets, in_angles, line}
 use Rattle.graph.proofs.PrintedTokens.{after_word, never, anything, Printed, behind, and, narrowed, nothing, printed_name, no_name_limit, inside, lined, word_first, semicolon, and_blanks}

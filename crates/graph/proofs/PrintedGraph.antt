@@ -1,5 +1,5 @@
 -- The canonical text of a graph that a text can give reads as that graph.
-use Rattle.std.proofs.Common.{◌≡◌, ℕ, zero, suc, ◌*◌, ◌^◌, ◌<◌, ◌≤◌, Bool, true, false, if◌then◌else◌, List, [], ◌∷◌, length, get_or, map, Option, Some, option_map, sym, ap, subst, ◌∙◌, arith}
+use Rattle.std.proofs.Common.{◌≡◌, ℕ, zero, suc, ◌*◌, ◌^◌, ◌<◌, ◌≤◌, Bool, true, false, List, [], ◌∷◌, length, get_or, map, Option, Some, option_map, sym, ap, subst, ◌∙◌, arith, if◌then◌else◌}
 use Rattle.std.proofs.Common.{length-append, ◌+◌, ◌++◌, append_assoc}
 use Rattle.std.proofs.lemmas.List.{length-map, append-nil}
 use Rattle.std.specs.Prelude.{is_some, All, slice_get}
@@ -31,8 +31,8 @@ use Rattle.steptree.specs.declared.step.Step.{Step as NamedStep}
 use Rattle.steptree.specs.Resolved.{IsBlock}
 use Rattle.steptree.specs.Sheet.{BodyKeepsTo}
 use Rattle.syntax.specs.declared.tree.Tree.{Tree}
-use Rattle.syntax.specs.Spelled.{Piece, declaration_pieces, relation_pieces, step_pieces, graph_pieces}
-use Rattle.syntax.specs.Limits.{relation_limits}
+use Rattle.syntax.specs.Spelled.{Piece}
+use Rattle.syntax.specs.GraphTexts.{declaration_pieces, relation_pieces, step_pieces, graph_pieces, relation_limits}
 use Rattle.graph.specs.Tree.{items_of, tags_of, step_names, is_read, is_item_put, is_tag_put, sheet_in, IsStepOf, is_environment_item_put, is_environment_tag_put, is_environment_get}
 use Rattle.graph.proofs.PrintedExpressions.{AllPrinted, all_printed, no_all}
 use Rattle.graph.proofs.PrintedValues.{vec_of}

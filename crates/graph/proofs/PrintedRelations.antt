@@ -6,8 +6,9 @@ use Rattle.std.specs.List.{AllByRecursion, flat_map, list_any}
 use Rattle.steptree.specs.Names.{Text, names_in, is_text}
 use Rattle.syntax.specs.declared.token.Word.TheVariants as kept
 use Rattle.syntax.specs.Grammar.{Relation, prescribes, reads, puts_item, puts_tag, environment_puts_item, environment_puts_tag, environment_gets}
-use Rattle.syntax.specs.Spelled.{Piece, relation_pieces, arrow as arrow_pieces, plain, at}
-use Rattle.syntax.specs.Limits.{name_limits, relation_limits}
+use Rattle.syntax.specs.Spelled.{Piece, plain, at}
+use Rattle.syntax.specs.GraphTexts.{relation_pieces, arrow as arrow_pieces, relation_limits, IsRelation}
+use Rattle.syntax.specs.Limits.{name_limits}
 use Rattle.graph.specs.Graph.{Graph, Step}
 use Rattle.graph.specs.Textual.{IsGraphName}
 use Rattle.graph.specs.Canonical.{in_brackets, in_angles, in_rounds, arrow, line, those, step_relations, environment_relations}
@@ -18,7 +19,7 @@ use Rattle.graph.proofs.Lists.{no_both, any_agree, each_found, each_unmapped}
 use Rattle.std.specs.Prelude.{slice_get}
 use Rattle.syntax.specs.declared.tree.Relation.{Relation as Related}
 use Rattle.syntax.specs.declared.tree.Relation.TheVariants as tree
-use Rattle.syntax.specs.Tree.{AreAll, IsRelation}
+use Rattle.syntax.specs.Tree.{AreAll}
 use Rattle.graph.specs.Prescribed.{names_of_steps}
 use Rattle.graph.proofs.PrintedApart.{any_mapped, Apart, flipped}
 use Rattle.graph.proofs.PrintedValues.{name_of}

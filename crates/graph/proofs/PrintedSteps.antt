@@ -16,9 +16,10 @@ use Rattle.syntax.specs.declared.token.Word.TheVariants as kept
 use Rattle.syntax.specs.declared.token.Symbol.TheVariants as sign
 use Rattle.syntax.specs.Tokens.{word_text}
 use Rattle.syntax.specs.Grammar.{Named, StepText}
-use Rattle.syntax.specs.Spelled.{Piece, named, a_sign, a_word, parameters_pieces, variables_pieces, get_pieces, put_pieces, statements_pieces, step_pieces, plain}
-use Rattle.syntax.specs.Limits.{all_names, step_limits, steps_limits}
-use Rattle.syntax.specs.Tree.{AreAll, IsStep}
+use Rattle.syntax.specs.Spelled.{Piece, named, a_sign, a_word, statements_pieces, plain}
+use Rattle.syntax.specs.OwnStatements.{get_pieces, put_pieces}
+use Rattle.syntax.specs.GraphTexts.{parameters_pieces, variables_pieces, step_pieces, all_names, step_limits, steps_limits, IsStep}
+use Rattle.syntax.specs.Tree.{AreAll}
 use Rattle.graph.specs.declared.fault.GraphError.TheVariants.{StepTwice}
 use Rattle.graph.specs.Graph.{Graph, Step, sheet_of, IsOfGraph}
 use Rattle.graph.specs.Tree.{text_of, step_names, is_read, is_item_put, is_tag_put, each_of, prescriber_of}
@@ -28,7 +29,8 @@ use Rattle.graph.specs.Canonical.{in_rounds, joined, line, variables_line, block
 use Rattle.graph.proofs.PrintedTokens.{never, Printed, behind, and, printed_name, no_name_limit, lined, word_first, close_brace, plain_brace, a_word_alone, no_more_limit, in_order, inside_rounds}
 use Rattle.graph.proofs.PrintedExpressions.{OnePrinted}
 use Rattle.graph.proofs.PrintedDeclarations.{Bears, no_limits_of, none_behind, texts_of, names_of_all, parameters_printed, variables_printed, one_before, not_there}
-use Rattle.graph.proofs.PrintedBlocks.{known, read_printed, write_printed, many_names}
+use Rattle.graph.proofs.PrintedBlocks.{known, many_names}
+use Rattle.graph.proofs.OwnStatements.{read_printed, write_printed}
 use Rattle.graph.proofs.PrintedApart.{Apart, Clear, apart, nowhere, take_each, flipped}
 use Rattle.graph.proofs.PrintedValues.{vec_of, name_of}
 use Rattle.graph.proofs.Lists.{as_many, no_both, each, are_both, each_at, in_common}

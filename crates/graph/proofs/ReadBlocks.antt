@@ -1,24 +1,25 @@
 -- What the tokens of a text hold; what is read as an expression or a block can be written.
-use Rattle.std.proofs.Common.{◌≡◌, ◌≢◌, ◌≤◌, ◌+◌, ◌-◌, ℕ, nat_lt, if◌then◌else◌, List, [], ◌∷◌, ◌++◌, length, subst, arith, ◌<◌, suc, max, Some, refl, sym, ap, ◌∙◌}
+use Rattle.std.proofs.Common.{◌≡◌, ◌≢◌, ◌≤◌, ◌+◌, ◌-◌, ℕ, nat_lt, List, [], ◌∷◌, ◌++◌, length, subst, arith, ◌<◌, suc, max, Some, refl, sym, ap, ◌∙◌, if◌then◌else◌}
 use Rattle.std.proofs.lemmas.Bool.Decides.{nat_tests}
 use Rattle.std.specs.Prelude.{⊤}
 use Rattle.std.specs.List.{AllByRecursion, flat_map}
 use Rattle.syntax.specs.declared.token.Word.{Word}
 use Rattle.syntax.specs.Tokens.{Lexeme, name, number, word, symbol, unknown, GREATEST, IsWordText, word_text, Stands, Spot, AreTokens}
-use Rattle.syntax.specs.Grammar.{Position, Expr, sum_alone, compared, Sum, prod_alone, added, Prod, unary_alone, multiplied, Unary, negated, literal, variable, bracketed, Sums, no_sums, sums, Key}
-use Rattle.syntax.specs.Grammar.{Statement, own, assigned, if_alone, if_else, for, Statements, no_more, and_then, Get, Put, put_item, put_tag}
-use Rattle.syntax.specs.Spelled.{Piece, plain, at, IsPiece, ArePieces, a_sign, expr_pieces, sum_pieces, prod_pieces, unary_pieces, sums_pieces, statement_pieces, statements_pieces, get_pieces, put_pieces}
+use Rattle.syntax.specs.Grammar.{Position, Named, Expr, sum_alone, compared, Sum, prod_alone, added, Prod, unary_alone, multiplied, Unary, negated, literal, variable, bracketed, Sums, no_sums, sums, Key, Statement, own, assigned, if_alone, if_else, for, Statements, no_more, and_then}
+use Rattle.syntax.specs.Spelled.{Piece, plain, at, IsPiece, ArePieces, a_sign, expr_pieces, sum_pieces, prod_pieces, unary_pieces, sums_pieces, statement_pieces, statements_pieces}
 use Rattle.std.proofs.lemmas.Option.{slice_get_within}
-use Rattle.steptree.specs.Tree.{Expression, NamedExpression, Number, Variable, Negation, Operation, Block, NamedBlock, End, Assign, If, For, PutItem, PutTag}
+use Rattle.steptree.specs.Tree.{Expression, NamedExpression, Number, Variable, Negation, Operation, End, Do, If, For}
+use Rattle.steptree.specs.Simple.{NumberedSimple, NamedSimple, Block, NamedBlock, NumberedUse, Target, Value, uses_of}
+use Rattle.steptree.specs.declared.simple.Simple.TheVariants as simple
 use Rattle.steptree.specs.Tree as tree
 use Rattle.steptree.specs.declared.step.Name.{Name}
 use Rattle.steptree.specs.Names.{Text, slot_of}
-use Rattle.steptree.specs.Resolved.{IsExpression, AreExpressions, IsBlock, IsKey as IsKeyOf}
+use Rattle.steptree.specs.Resolved.{IsExpression, AreExpressions, IsSimple, IsBlock, IsKey as IsKeyOf}
 use Rattle.syntax.specs.declared.token.Symbol.TheVariants as sign
 use Rattle.syntax.specs.declared.limits.TheConstants.{MOST_DEPTH, MOST_BRACES}
-use Rattle.syntax.specs.Limits.{expr_depth, sum_depth, prod_depth, unary_depth, expr_first, sum_first, expr_within, sum_within, depth_limits, expr_limits, sum_limits, sums_limits, key_limits, statement_limits, statements_limits, get_limits, put_limits}
-use Rattle.syntax.specs.Tree.{AreAll, IsExpr, IsSum, IsProd, IsUnary, AreSums, IsStatement, AreStatements, IsGet, IsPut, IsKey}
-use Rattle.graph.specs.Textual.{depth_of, IsSpelled, IsTextExpression, AreComponents, IsReadBlock, IsWriteBlock}
+use Rattle.syntax.specs.Limits.{expr_depth, sum_depth, prod_depth, unary_depth, expr_first, sum_first, expr_within, sum_within, depth_limits, expr_limits, sum_limits, sums_limits, key_limits, statement_limits, statements_limits}
+use Rattle.syntax.specs.Tree.{AreAll, IsExpr, IsSum, IsProd, IsUnary, AreSums, IsAssigned, IsStatement, AreStatements, IsKey}
+use Rattle.graph.specs.Textual.{depth_of, IsSpelled, IsTextExpression, AreComponents, IsTextBlock}
 use Rattle.graph.proofs.Faultless.{first_empty, second_empty}
 use Rattle.graph.proofs.Marks.{at_place}
 use Rattle.steptree.specs.Nameable.{Collection, Nameable}
@@ -145,93 +146,67 @@ module _ (names : List Text) where
       (component_read first it e (search (front, rear)) (search first_empty) are.0 means.0, more_read more them es (search (front, rear)) (search second_empty) are.1 means.1)
   components_read _ _ _ _ _ are means = absurd (assumption)
 
--- a kind of block among this index of names and inside these braces, whatever statements of its own it has
-record IsKind (many : ℕ) (Kind : ℕ → Block → Type 0) : Type 0 where
-  ends : (around : ℕ) → Kind around tree.End
-  assigns : (around slot : ℕ) (value : Expression) (rest : Block) → slot < many → IsTextExpression many value → Kind around rest → Kind around (tree.Assign slot value rest)
-  chooses : (around : ℕ) (condition : Expression) (first : Block) (second : Block) (rest : Block) → IsTextExpression many condition → around < MOST_BRACES → Kind (suc around) first
-      → Kind (suc around) second → Kind around rest → Kind around (tree.If condition first second rest)
-  repeats : (around slot : ℕ) (from to : Expression) (inner : Block) (rest : Block) → slot < many → IsTextExpression many from → IsTextExpression many to → around < MOST_BRACES → Kind (suc around) inner
-      → Kind around rest → Kind around (tree.For slot from to inner rest)
-
 -- what follows a statement
-abbrev Rests : List Text → Nameable → (ℕ → Block → Type 0) → ℕ → (NamedBlock → Type 0) → Type 0
-Rests names sheet Kind around Rest = (it : NamedBlock) (rest : Block) → Rest it → IsBlock names sheet it rest → Kind around rest
+abbrev Rests : (NumberedUse → Type 0) → List Text → Nameable → ℕ → (NamedBlock → Type 0) → Type 0
+Rests IsUse names sheet around Rest = (it : NamedBlock) (rest : Block) → Rest it → IsBlock names sheet it rest → IsTextBlock IsUse (length names) around rest
+
+abbrev pub AreUses : (NumberedUse → Type 0) → NumberedSimple → Type 0
+AreUses IsUse statement = AllByRecursion IsUse (uses_of statement)
 
 module _ (names : List Text) (sheet : Nameable) where
-  module _ (Kind : ℕ → Block → Type 0) (kind : IsKind (length names) Kind) {B : Type 0} (IsOwn : B → NamedBlock → (NamedBlock → Type 0) → Type 0) (own_pieces : B → List Piece) (own_limits : B → List Position)
-      (own_read : (around : ℕ) (it : B) (block : NamedBlock) (b : Block) (Rest : NamedBlock → Type 0) → Rests names sheet Kind around Rest → AreSound (own_pieces it) → own_limits it ≡ [] → IsOwn it block Rest → IsBlock names sheet block b → Kind around b) where
-    ends_read : (around : ℕ) (block : NamedBlock) (b : Block) → block ≡ End → IsBlock names sheet block b → Kind around b
-    ends_read around End tree.End is means = kind.ends around
+  -- a kind of block in which variables may be set to values, whatever statements of its own it has
+  module _ (IsUse : NumberedUse → Type 0) (is_target : (slot : ℕ) → slot < length names → IsUse (Target slot)) (is_value : (value : Expression) → IsTextExpression (length names) value → IsUse (Value value))
+      {B : Type 0} (IsOwn : B → NamedSimple → Type 0) (own_pieces : B → List Piece) (own_limits : B → List Position)
+      (own_read : (it : B) (statement : NamedSimple) (b : NumberedSimple) → AreSound (own_pieces it) → own_limits it ≡ [] → IsOwn it statement → IsSimple names sheet statement b → AreUses IsUse b) where
+    assigned_read : (it : Named) (expr : Expr) (statement : NamedSimple) (b : NumberedSimple) → AreSound (expr_pieces expr) → expr_limits expr ≡ [] → IsAssigned it expr statement → IsSimple names sheet statement b → AreUses IsUse b
+    assigned_read it expr (simple.Assign called value) (simple.Assign slot e) sound none is means = (is_target slot (slot_within names called slot means.0), (is_value e (expression_read names expr value e sound none is.1 means.1), tt))
+    assigned_read _ _ _ _ _ _ is means = absurd (assumption)
+
+    ends_read : (around : ℕ) (block : NamedBlock) (b : Block) → block ≡ End → IsBlock names sheet block b → IsTextBlock IsUse (length names) around b
+    ends_read around End tree.End is means = tt
     ends_read around End _ is means = absurd means
     ends_read around _ b is means = absurd (cc)
 
     mutual
-      statement_read : (around : ℕ) (statement : Statement B) (after : Statements B) (block : NamedBlock) (b : Block) → Rests names sheet Kind around (AreStatements IsOwn after)
+      statement_read : (around : ℕ) (statement : Statement B) (after : Statements B) (block : NamedBlock) (b : Block) → Rests IsUse names sheet around (AreStatements IsOwn after)
           → AreSound (statement_pieces own_pieces statement)
-          → statement_limits own_limits around statement ≡ [] → IsStatement IsOwn statement block (AreStatements IsOwn after) → IsBlock names sheet block b → Kind around b
-      statement_read around (own it) after block b rests sound none is means = own_read around it block b (AreStatements IsOwn after) rests sound none is means
-      statement_read around (assigned it expr) after (Assign called value rest) (tree.Assign slot e more) rests sound none is means =
-          kind.assigns around slot e more (slot_within names called slot means.0) (expression_read names expr value e (search (front, rear)) (search (first_empty, second_empty)) is.1 means.1) (rests rest more is.2 means.2)
-      statement_read around (if_alone condition brace first) after (If value one two rest) (tree.If e c d more) rests sound none is means =
-          kind.chooses around e c d more
-          (expression_read names condition value e (search (front, rear)) (search (first_empty, second_empty)) is.0 means.0) (room MOST_BRACES around brace (search (first_empty, second_empty)))
-          (statements_read (suc around) first one c (search (front, rear)) (search (first_empty, second_empty)) is.1 means.1) (ends_read (suc around) two d is.2 means.2) (rests rest more is.3 means.3)
-      statement_read around (if_else condition brace first other second) after (If value one two rest) (tree.If e c d more) rests sound none is means =
-          kind.chooses around e c d more
-          (expression_read names condition value e (search (front, rear)) (search (first_empty, second_empty)) is.0 means.0) (room MOST_BRACES around brace (search (first_empty, second_empty)))
-          (statements_read (suc around) first one c (search (front, rear)) (search (first_empty, second_empty)) is.1 means.1)
-          (statements_read (suc around) second two d (search (front, rear)) (search (first_empty, second_empty)) is.2 means.2) (rests rest more is.3 means.3)
-      statement_read around (for it from to brace inner) after (For called low high one rest) (tree.For slot e f c more) rests sound none is means =
-          kind.repeats around slot e f c more (slot_within names called slot means.0)
-          (expression_read names from low e (search (front, rear)) (search (first_empty, second_empty)) is.1 means.1) (expression_read names to high f (search (front, rear)) (search (first_empty, second_empty)) is.2 means.2)
-          (room MOST_BRACES around brace (search (first_empty, second_empty)))
-          (statements_read (suc around) inner one c (search (front, rear)) (search (first_empty, second_empty)) is.3 means.3) (rests rest more is.4 means.4)
+          → statement_limits own_limits around statement ≡ [] → IsStatement IsOwn statement block (AreStatements IsOwn after) → IsBlock names sheet block b → IsTextBlock IsUse (length names) around b
+      statement_read around (own it) after (Do statement rest) (tree.Do b more) rests sound none is means = (own_read it statement b sound none is.0 means.0, rests rest more is.1 means.1)
+      statement_read around (assigned it expr) after (Do statement rest) (tree.Do b more) rests sound none is means =
+          (assigned_read it expr statement b (search (front, rear)) (search (first_empty, second_empty)) is.0 means.0, rests rest more is.1 means.1)
+      statement_read around (if_alone condition brace first) after (If value one two rest) (tree.If e c d more) rests sound none is means = (
+        expression_read names condition value e (search (front, rear)) (search (first_empty, second_empty)) is.0 means.0,
+        room MOST_BRACES around brace (search (first_empty, second_empty)),
+        statements_read (suc around) first one c (search (front, rear)) (search (first_empty, second_empty)) is.1 means.1,
+        ends_read (suc around) two d is.2 means.2,
+        rests rest more is.3 means.3,
+      )
+      statement_read around (if_else condition brace first other second) after (If value one two rest) (tree.If e c d more) rests sound none is means = (
+        expression_read names condition value e (search (front, rear)) (search (first_empty, second_empty)) is.0 means.0,
+        room MOST_BRACES around brace (search (first_empty, second_empty)),
+        statements_read (suc around) first one c (search (front, rear)) (search (first_empty, second_empty)) is.1 means.1,
+        statements_read (suc around) second two d (search (front, rear)) (search (first_empty, second_empty)) is.2 means.2,
+        rests rest more is.3 means.3,
+      )
+      statement_read around (for it from to brace inner) after (For called low high one rest) (tree.For slot e f c more) rests sound none is means = (
+        slot_within names called slot means.0,
+        expression_read names from low e (search (front, rear)) (search (first_empty, second_empty)) is.1 means.1,
+        expression_read names to high f (search (front, rear)) (search (first_empty, second_empty)) is.2 means.2,
+        room MOST_BRACES around brace (search (first_empty, second_empty)),
+        statements_read (suc around) inner one c (search (front, rear)) (search (first_empty, second_empty)) is.3 means.3,
+        rests rest more is.4 means.4,
+      )
       statement_read _ _ _ _ _ _ _ _ is means = absurd (assumption)
 
-      statements_read : (around : ℕ) (them : Statements B) (block : NamedBlock) (b : Block) → AreSound (statements_pieces own_pieces them) → statements_limits own_limits around them ≡ []
-          → AreStatements IsOwn them block → IsBlock names sheet block b → Kind around b
+      pub statements_read : (around : ℕ) (them : Statements B) (block : NamedBlock) (b : Block) → AreSound (statements_pieces own_pieces them) → statements_limits own_limits around them ≡ []
+          → AreStatements IsOwn them block → IsBlock names sheet block b → IsTextBlock IsUse (length names) around b
       statements_read around no_more block b sound none is means = ends_read around block b is means
       statements_read around (and_then first more) block b sound none is means =
           statement_read around first more block b (λ it rest are so. statements_read around more it rest (search (front, rear)) (search (first_empty, second_empty)) are so)
           (search (front, rear)) (search (first_empty, second_empty)) is means
 
-  -- ---- keys, gets and puts
+  -- ---- keys
 
-  key_read : (collections : List Collection) (key : Key) (it : Name) (parts : List NamedExpression) (index : ℕ) (es : List Expression) → AreSound (sums_pieces key.components)
+  pub key_read : (collections : List Collection) (key : Key) (it : Name) (parts : List NamedExpression) (index : ℕ) (es : List Expression) → AreSound (sums_pieces key.components)
       → key_limits key ≡ [] → IsKey key it parts → IsKeyOf names collections it parts index es → AreComponents (length names) es
   key_read collections key it parts index es sound none is means = components_read names key.components parts es sound (search second_empty) is.1 means.1
-
-  read_kind : IsKind (length names) (IsReadBlock (length names))
-  read_kind = assumption
-
-  write_kind : IsKind (length names) (IsWriteBlock (length names))
-  write_kind = assumption
-
-  get_read : (around : ℕ) (get : Get) (block : NamedBlock) (b : Block) (Rest : NamedBlock → Type 0) → Rests names sheet (IsReadBlock (length names)) around Rest → AreSound (get_pieces get)
-      → get_limits get ≡ [] → IsGet get block Rest → IsBlock names sheet block b → IsReadBlock (length names) around b
-  get_read around get (tree.Get called named key rest) (tree.Get slot collection es more) Rest rests sound none is means =
-      let parts : AreSound (sums_pieces get.item.components ++ a_sign sign.CloseBracket ++ a_sign sign.Semicolon) = sound.1.1.1.1.1 in
-      (slot_within names called slot means.0, key_read sheet.items get.item named key.items collection.0 es (search (front, parts)) (search second_empty) is.1 means.1, rests rest more is.2 means.2)
-  get_read _ _ _ _ _ _ _ _ is means = absurd (assumption)
-
-  put_read : (around : ℕ) (put : Put) (block : NamedBlock) (b : Block) (Rest : NamedBlock → Type 0) → Rests names sheet (IsWriteBlock (length names)) around Rest → AreSound (put_pieces put)
-      → put_limits put ≡ [] → IsPut put block Rest → IsBlock names sheet block b → IsWriteBlock (length names) around b
-  put_read around (put_item item value) (PutItem named key it rest) (tree.PutItem collection es e more) Rest rests sound none is means =
-      let parts : AreSound (sums_pieces item.components ++ a_sign sign.CloseBracket ++ a_sign sign.Assign ++ expr_pieces value ++ a_sign sign.Semicolon) = sound.1.1.1 in (
-        key_read sheet.items item named key.items collection.0 es (search (front, parts)) (search first_empty) is.0 means.0,
-        expression_read names value it e (search (front, rear, parts)) (search second_empty) is.1 means.1,
-        rests rest more is.2 means.2,
-      )
-  put_read around (put_tag tag) (PutTag named key rest) (tree.PutTag collection es more) Rest rests sound none is means =
-      let parts : AreSound (sums_pieces tag.components ++ a_sign sign.Greater ++ a_sign sign.Semicolon) = sound.1.1.1 in
-      (key_read sheet.tags tag named key.items collection.0 es (search (front, parts)) none is.0 means.0, rests rest more is.1 means.1)
-  put_read _ _ _ _ _ _ _ _ is means = absurd (assumption)
-
-  pub read_block_read : (them : Statements Get) (block : NamedBlock) (b : Block) → AreSound (statements_pieces get_pieces them) → statements_limits get_limits 0 them ≡ []
-      → AreStatements IsGet them block → IsBlock names sheet block b → IsReadBlock (length names) 0 b
-  read_block_read = statements_read (IsReadBlock (length names)) read_kind IsGet get_pieces get_limits get_read 0
-
-  pub write_block_read : (them : Statements Put) (block : NamedBlock) (b : Block) → AreSound (statements_pieces put_pieces them) → statements_limits put_limits 0 them ≡ []
-      → AreStatements IsPut them block → IsBlock names sheet block b → IsWriteBlock (length names) 0 b
-  write_block_read = statements_read (IsWriteBlock (length names)) write_kind IsPut put_pieces put_limits put_read 0

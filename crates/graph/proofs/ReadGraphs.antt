@@ -10,20 +10,23 @@ use Rattle.syntax.specs.declared.tree.Declaration.{Declaration as Declared}
 use Rattle.syntax.specs.declared.tree.Declaration.TheVariants as declared
 use Rattle.syntax.specs.Tokens.{name}
 use Rattle.syntax.specs.Grammar.{Named, Names, Declaration, item_declared, tag_declared, StepText}
-use Rattle.syntax.specs.Limits.{name_limits, all_names, declarations_limits, step_names, step_limits, steps_limits}
-use Rattle.syntax.specs.Spelled.{Piece, a_sign, named, names_pieces, parameters_pieces, variables_pieces, declaration_pieces, step_pieces, graph_pieces, statements_pieces, get_pieces, put_pieces}
-use Rattle.syntax.specs.Tree.{AreAll, IsDeclaration, IsStep}
+use Rattle.syntax.specs.Limits.{name_limits}
+use Rattle.syntax.specs.GraphTexts.{all_names, declarations_limits, step_names, step_limits, steps_limits, names_pieces, parameters_pieces, variables_pieces, declaration_pieces, step_pieces, graph_pieces, IsDeclaration, IsStep}
+use Rattle.syntax.specs.Spelled.{Piece, a_sign, named, statements_pieces}
+use Rattle.syntax.specs.OwnStatements.{get_pieces, put_pieces}
+use Rattle.syntax.specs.Tree.{AreAll}
 use Rattle.graph.specs.Textual.{IsGraphName, AreNames, IsTextStep, ReadsTextual}
 use Rattle.graph.specs.Tree.{items_of, tags_of, text_of, sheet_in, IsStepOf}
 use Rattle.graph.proofs.Faultless.{first_empty, second_empty, later, own_names, names_in_step_apart, items_apart, tags_apart, step_names_apart, no_step}
 use Rattle.graph.proofs.Texts.{own_place}
-use Rattle.graph.proofs.ReadBlocks.{IsSound, AreSound, front, rear, kept_to, pieces_sound, read_block_read, write_block_read}
+use Rattle.graph.proofs.ReadBlocks.{IsSound, AreSound, front, rear, kept_to, pieces_sound}
+use Rattle.graph.proofs.OwnStatements.{read_block_read, write_block_read}
 use Rattle.std.proofs.lemmas.Grind.{flat_map-append}
 use Rattle.steptree.specs.declared.step.Step.{Step as NamedStep}
 use Rattle.syntax.specs.declared.tree.Tree.{Tree}
 use Rattle.graph.specs.Faults.{repeated, step_faults}
 use Rattle.graph.specs.Graph.{Step, Graph}
-use Rattle.graph.proofs.AlikeTrees.{names_are}
+use Rattle.graph.proofs.SameGraphs.{names_are}
 use Rattle.graph.proofs.SmallTrees.{small_step, is_small}
 use Rattle.graph.proofs.Lists.{each_of_both, in_common, each_weaker, each_mapped}
 use Rattle.graph.specs.Prescribed.{names_of_steps}

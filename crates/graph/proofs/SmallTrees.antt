@@ -13,8 +13,9 @@ use Rattle.syntax.specs.declared.tree.Declaration.{Declaration as Declared}
 use Rattle.syntax.specs.declared.tree.Declaration.TheVariants as declared
 use Rattle.syntax.specs.declared.tree.Tree.{Tree}
 use Rattle.syntax.specs.Grammar.{Position, Named, Declaration, item_declared, tag_declared, StepText, GraphText}
-use Rattle.syntax.specs.Limits.{IsWithin, one_more, names_behind, all_names, declarations_limits, step_names, step_limits, steps_limits}
-use Rattle.syntax.specs.Tree.{AreAll, IsName, IsDeclaration, IsStep, IsTree}
+use Rattle.syntax.specs.Limits.{one_more, names_behind}
+use Rattle.syntax.specs.GraphTexts.{IsWithin, all_names, declarations_limits, step_names, step_limits, steps_limits, IsDeclaration, IsStep, IsTree}
+use Rattle.syntax.specs.Tree.{AreAll, IsName}
 use Rattle.graph.specs.Small.{IsSmallStep, IsSmall}
 use Rattle.graph.specs.Tree.{items_of, tags_of}
 use Rattle.graph.proofs.Faultless.{first_empty, second_empty}

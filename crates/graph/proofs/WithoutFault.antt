@@ -3,17 +3,22 @@ use Rattle.std.proofs.Common.{◌≡◌, ℕ, suc, Bool, true, not, List, [], �
 use Rattle.std.specs.Prelude.{option_map, is_none}
 use Rattle.std.proofs.lemmas.Bool.{eq-eqb}
 use Rattle.steptree.specs.declared.checker.CheckError.{CheckError}
-use Rattle.steptree.specs.declared.checker.CheckError.TheVariants.{UnknownName, Arity, UndeclaredRead, UndeclaredPut}
-use Rattle.steptree.specs.Tree.{Expression, Block, NamedExpression, Number, Variable, Negation, Operation, NamedBlock, End, Assign, If, For, Get, PutItem, PutTag}
+use Rattle.steptree.specs.declared.checker.CheckError.TheVariants.{UnknownName, Arity}
+use Rattle.steptree.specs.Tree.{Expression, NamedExpression, Number, Variable, Negation, Operation, End, Do, If, For}
+use Rattle.steptree.specs.Simple.{NumberedSimple, NamedSimple, Block, NamedBlock}
 use Rattle.steptree.specs.Tree as tree
 use Rattle.steptree.specs.declared.step.Name.{Name}
 use Rattle.steptree.specs.Names.{Text, place_of, names_in, slot_of, number_of, names_of}
-use Rattle.steptree.specs.CheckFaults.{fault_if, variable_faults, expression_faults, component_faults, is_number, components_of, known_faults, key_faults, block_faults, faults_of}
-use Rattle.steptree.specs.Resolved.{IsExpression, AreExpressions, IsKey, IsBlock}
-use Rattle.steptree.specs.Sheet.{IsAllowed, KeepsTo}
+use Rattle.steptree.specs.CheckFaults.{fault_if, variable_faults, expression_faults, component_faults, is_number, components_of, known_faults, key_faults, simple_faults, block_faults, faults_of}
+use Rattle.steptree.specs.Resolved.{IsExpression, AreExpressions, IsKey, IsSimple, IsBlock}
+use Rattle.steptree.specs.Sheet.{IsAllowed, AllowsAll, KeepsTo}
 use Rattle.steptree.specs.Nameable.{Collection, Nameable}
-use Rattle.syntax.specs.Tree.{AreAll, IsStep, IsTree, IsGet, IsPut}
-use Rattle.graph.proofs.AlikeTrees.{SameName, Alike, AlikeKey, AlikeBlock, names_are, statements_alike, get_alike, put_alike, one_reading}
+use Rattle.syntax.specs.Tree.{AreAll}
+use Rattle.syntax.specs.OwnStatements.{IsGet, IsPut}
+use Rattle.syntax.specs.GraphTexts.{IsStep, IsTree}
+use Rattle.graph.proofs.AlikeTrees.{SameName, Alike, AlikeKey, AlikeSimple, AlikeBlock, statements_alike}
+use Rattle.graph.proofs.OwnStatements.{get_alike, put_alike}
+use Rattle.graph.proofs.SameGraphs.{names_are, one_reading}
 use Rattle.steptree.specs.declared.step.Step.{Step as NamedStep}
 use Rattle.syntax.specs.declared.fault.TreeError.TheVariants as syntax_error
 use Rattle.syntax.specs.declared.tree.Tree.{Tree}
@@ -76,23 +81,16 @@ module _ (names : List Text) where
   -- ---- blocks
 
   module _ (sheet : Nameable) where
+    simple_clear : (one two : NamedSimple) (statement : NumberedSimple) → AlikeSimple one two → IsSimple names sheet one statement → AllowsAll sheet statement → simple_faults names sheet two ≡ []
+    simple_clear one two statement alike is keeps = grind (arith, variable_clear, expression_clear, key_clear)
+
     pub block_clear : (one two : NamedBlock) (b : Block) → AlikeBlock one two → IsBlock names sheet one b → KeepsTo sheet b → block_faults names sheet two ≡ []
     block_clear End End b alike is keeps = refl
-    block_clear (Assign m e1 one) (Assign n e2 two) (tree.Assign slot e rest) alike is keeps =
-        λ i. variable_clear m n slot alike.0 is.0 i ++ expression_clear e1 e2 e alike.1 is.1 i ++ block_clear one two rest alike.2 is.2 keeps i
+    block_clear (Do s1 one) (Do s2 two) (tree.Do statement rest) alike is keeps = λ i. simple_clear s1 s2 statement alike.0 is.0 keeps.0 i ++ block_clear one two rest alike.1 is.1 keeps.1 i
     block_clear (If e1 a1 b1 one) (If e2 a2 b2 two) (tree.If e a b rest) alike is keeps =
         λ i. expression_clear e1 e2 e alike.0 is.0 i ++ block_clear a1 a2 a alike.1 is.1 keeps.0 i ++ block_clear b1 b2 b alike.2 is.2 keeps.1 i ++ block_clear one two rest alike.3 is.3 keeps.2 i
     block_clear (For m e1 g1 a1 one) (For n e2 g2 a2 two) (tree.For slot e g a rest) alike is keeps =
         λ i. variable_clear m n slot alike.0 is.0 i ++ expression_clear e1 e2 e alike.1 is.1 i ++ expression_clear g1 g2 g alike.2 is.2 i ++ block_clear a1 a2 a alike.3 is.3 keeps.0 i ++ block_clear one two rest alike.4 is.4 keeps.1 i
-    block_clear (Get m c1 k1 one) (Get n c2 k2 two) (tree.Get slot item es rest) alike is keeps =
-        let key = key_clear sheet.items sheet.reads UndeclaredRead c1 k1.items c2 k2.items item.0 es alike.1 is.1 keeps.0 in
-        λ i. variable_clear m n slot alike.0 is.0 i ++ key i ++ block_clear one two rest alike.2 is.2 keeps.1 i
-    block_clear (PutItem c1 k1 e1 one) (PutItem c2 k2 e2 two) (tree.PutItem item es e rest) alike is keeps =
-        let key = key_clear sheet.items sheet.item_puts UndeclaredPut c1 k1.items c2 k2.items item.0 es alike.0 is.0 keeps.0 in
-        λ i. key i ++ expression_clear e1 e2 e alike.1 is.1 i ++ block_clear one two rest alike.2 is.2 keeps.1 i
-    block_clear (PutTag c1 k1 one) (PutTag c2 k2 two) (tree.PutTag tag es rest) alike is keeps =
-        let key = key_clear sheet.tags sheet.tag_puts UndeclaredPut c1 k1.items c2 k2.items tag.0 es alike.0 is.0 keeps.0 in
-        λ i. key i ++ block_clear one two rest alike.1 is.1 keeps.1 i
     block_clear _ _ _ alike is _ = absurd (assumption)
 
 -- ---- bodies

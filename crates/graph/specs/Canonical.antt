@@ -4,7 +4,9 @@ use Rattle.std.specs.List.{flat_map, zip}
 use Rattle.std.specs.Fmt.{decimal}
 use Rattle.steptree.specs.declared.expression.Operator.{Operator}
 use Rattle.steptree.specs.declared.expression.Operator.TheVariants as operator
-use Rattle.steptree.specs.Tree.{Expression, Block, Number, Variable, Negation, Operation, End, Assign, If, For, Get, PutItem, PutTag}
+use Rattle.steptree.specs.Tree.{Expression, Number, Variable, Negation, Operation, End, Do, If, For}
+use Rattle.steptree.specs.Simple.{NumberedSimple, Block}
+use Rattle.steptree.specs.declared.simple.Simple.TheVariants.{Assign, Get, PutItem, PutTag}
 use Rattle.steptree.specs.Names.{Text, names_in}
 use Rattle.steptree.specs.Nameable.{Collection}
 use Rattle.graph.specs.Graph.{Step, Graph}
@@ -157,17 +159,20 @@ module _ (g : Graph) (names : List Text) where
   abbrev pub put_tag_line : ℕ → ℕ → List Expression → Text
   put_tag_line level tag components = line level (codes "put " ++ tag_text tag components ++ codes ";")
 
+  abbrev pub simple_line : ℕ → NumberedSimple → Text
+  simple_line level (Assign slot value) = assignment_line level slot value
+  simple_line level (Get slot item components) = get_line level slot item.0 components
+  simple_line level (PutItem item components value) = put_item_line level item.0 components value
+  simple_line level (PutTag tag components) = put_tag_line level tag.0 components
+
   -- ---- blocks
 
   -- a block, one statement a line, indented by `level` levels
   abbrev pub block_text : ℕ → Block → Text
   block_text level End = []
-  block_text level (Assign slot value rest) = assignment_line level slot value ++ block_text level rest
+  block_text level (Do statement rest) = simple_line level statement ++ block_text level rest
   block_text level (If condition first second rest) = choice_around level condition (block_text (suc level) first) (block_text (suc level) second) ++ block_text level rest
   block_text level (For slot from to block rest) = loop_around level slot from to (block_text (suc level) block) ++ block_text level rest
-  block_text level (Get slot collection components rest) = get_line level slot collection.0 components ++ block_text level rest
-  block_text level (PutItem collection components value rest) = put_item_line level collection.0 components value ++ block_text level rest
-  block_text level (PutTag collection components rest) = put_tag_line level collection.0 components ++ block_text level rest
 
   -- a choice and a loop, with their blocks
   abbrev pub choice_text : ℕ → Expression → Block → Block → Text

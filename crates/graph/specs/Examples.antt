@@ -1,7 +1,8 @@
 -- A worked example: a graph of Fibonacci numbers, and its canonical text.
 use Rattle.std.specs.Prelude.{◌≡◌, ℕ, pos, true, false, List, [], ◌∷◌, ◌++◌, codes, length}
 use Rattle.steptree.specs.declared.expression.Operator.TheVariants as operator
-use Rattle.steptree.specs.Tree.{Expression, Number, Variable, Operation, End, Get, PutItem}
+use Rattle.steptree.specs.Tree.{Expression, Number, Variable, Operation, End, Do}
+use Rattle.steptree.specs.declared.simple.Simple.TheVariants.{Get, PutItem}
 use Rattle.graph.specs.Graph.{Graph}
 use Rattle.graph.specs.Canonical.{canonical}
 
@@ -23,8 +24,8 @@ fibonacci = record {
     item_puts = true ∷ [];
     tag_puts = false ∷ [];
     body = record {
-      read = Get 1 (record { 0 = 0 }) (behind 1 ∷ []) (Get 2 (record { 0 = 0 }) (behind 2 ∷ []) End);
-      write = PutItem (record { 0 = 0 }) (Variable 0 ∷ []) (Operation operator.Add (Variable 1) (Variable 2)) End;
+      read = Do (Get 1 (record { 0 = 0 }) (behind 1 ∷ [])) (Do (Get 2 (record { 0 = 0 }) (behind 2 ∷ [])) End);
+      write = Do (PutItem (record { 0 = 0 }) (Variable 0 ∷ []) (Operation operator.Add (Variable 1) (Variable 2))) End;
     };
   } ∷ [];
   environment_item_puts = true ∷ [];

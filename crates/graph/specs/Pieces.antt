@@ -3,7 +3,8 @@ use Rattle.std.specs.Prelude.{◌≡◌, ℕ, zero, suc, Bool, true, false, List
 use Rattle.std.specs.declared.alloc.Global.{Global}
 use Rattle.std.specs.List.{flat_map, zip}
 use Rattle.steptree.specs.Names.{Text}
-use Rattle.steptree.specs.Tree.{Block, Expression}
+use Rattle.steptree.specs.Tree.{Expression}
+use Rattle.steptree.specs.Simple.{Block}
 use Rattle.steptree.specs.SeenBlocks.{NumberedStatement, stated}
 use Rattle.graph.specs.declared.canonical_text.relations.Kind.{Kind}
 use Rattle.graph.specs.declared.canonical_text.relations.Kind.TheVariants as kind

@@ -2,7 +2,8 @@
 use Rattle.std.specs.Prelude.{◌≡◌, ◌≢◌, ◌≤◌, ◌<◌, ⊤, ℕ, suc, pos, max, List, [], length, get_or}
 use Rattle.std.specs.List.{AllByRecursion}
 use Rattle.terms.specs.declared.key.TheConstants.{MAX_COMPONENTS}
-use Rattle.steptree.specs.Tree.{Expression, Block, Number, Variable, Negation, Operation, End, Assign, If, For, Get, PutItem, PutTag}
+use Rattle.steptree.specs.Tree.{Expression, Number, Variable, Negation, Operation, End, Do, If, For}
+use Rattle.steptree.specs.Simple.{Block, NumberedUse, Target, Value, ItemRead, ItemPut, TagPut, uses_of}
 use Rattle.steptree.specs.Names.{Text, names_in}
 use Rattle.syntax.specs.declared.token.Word.{Word}
 use Rattle.syntax.specs.declared.limits.TheConstants.{MOST_NAME_BYTES, MOST_DEPTH, MOST_BRACES}
@@ -52,29 +53,35 @@ IsTextExpression names expression = IsSpelled names expression × (depth_of expr
 abbrev pub AreComponents : ℕ → List Expression → Type 0
 AreComponents names components = AllByRecursion (IsTextExpression names) components
 
--- a read block, inside `around` braces
-abbrev pub IsReadBlock : ℕ → ℕ → Block → Type 0
-IsReadBlock names around End = ⊤
-IsReadBlock names around (Assign slot value rest) = (slot < names) × IsTextExpression names value × IsReadBlock names around rest
-IsReadBlock names around (If condition first second rest) =
-    IsTextExpression names condition × (around < MOST_BRACES) × IsReadBlock names (suc around) first × IsReadBlock names (suc around) second × IsReadBlock names around rest
-IsReadBlock names around (For slot from to block rest) =
-    (slot < names) × IsTextExpression names from × IsTextExpression names to × (around < MOST_BRACES) × IsReadBlock names (suc around) block × IsReadBlock names around rest
-IsReadBlock names around (Get slot collection components rest) = (slot < names) × AreComponents names components × IsReadBlock names around rest
-IsReadBlock names around (PutItem collection components value rest) = ⊥
-IsReadBlock names around (PutTag collection components rest) = ⊥
+-- what a statement of a read block uses, and what one of a write block
+abbrev pub IsReadUse : ℕ → NumberedUse → Type 0
+IsReadUse names (Target slot) = slot < names
+IsReadUse names (Value value) = IsTextExpression names value
+IsReadUse names (ItemRead collection components) = AreComponents names components
+IsReadUse names (ItemPut collection components) = ⊥
+IsReadUse names (TagPut collection components) = ⊥
 
--- a write block, inside `around` braces
+abbrev pub IsWriteUse : ℕ → NumberedUse → Type 0
+IsWriteUse names (Target slot) = slot < names
+IsWriteUse names (Value value) = IsTextExpression names value
+IsWriteUse names (ItemRead collection components) = ⊥
+IsWriteUse names (ItemPut collection components) = AreComponents names components
+IsWriteUse names (TagPut collection components) = AreComponents names components
+
+-- a block inside `around` braces, whose simple statements use only such things
+abbrev pub IsTextBlock : (NumberedUse → Type 0) → ℕ → ℕ → Block → Type 0
+IsTextBlock IsUse names around End = ⊤
+IsTextBlock IsUse names around (Do statement rest) = AllByRecursion IsUse (uses_of statement) × IsTextBlock IsUse names around rest
+IsTextBlock IsUse names around (If condition first second rest) =
+    IsTextExpression names condition × (around < MOST_BRACES) × IsTextBlock IsUse names (suc around) first × IsTextBlock IsUse names (suc around) second × IsTextBlock IsUse names around rest
+IsTextBlock IsUse names around (For slot from to block rest) =
+    (slot < names) × IsTextExpression names from × IsTextExpression names to × (around < MOST_BRACES) × IsTextBlock IsUse names (suc around) block × IsTextBlock IsUse names around rest
+
+abbrev pub IsReadBlock : ℕ → ℕ → Block → Type 0
+IsReadBlock names = IsTextBlock (IsReadUse names) names
+
 abbrev pub IsWriteBlock : ℕ → ℕ → Block → Type 0
-IsWriteBlock names around End = ⊤
-IsWriteBlock names around (Assign slot value rest) = (slot < names) × IsTextExpression names value × IsWriteBlock names around rest
-IsWriteBlock names around (If condition first second rest) =
-    IsTextExpression names condition × (around < MOST_BRACES) × IsWriteBlock names (suc around) first × IsWriteBlock names (suc around) second × IsWriteBlock names around rest
-IsWriteBlock names around (For slot from to block rest) =
-    (slot < names) × IsTextExpression names from × IsTextExpression names to × (around < MOST_BRACES) × IsWriteBlock names (suc around) block × IsWriteBlock names around rest
-IsWriteBlock names around (Get slot collection components rest) = ⊥
-IsWriteBlock names around (PutItem collection components value rest) = AreComponents names components × IsTextExpression names value × IsWriteBlock names around rest
-IsWriteBlock names around (PutTag collection components rest) = AreComponents names components × IsWriteBlock names around rest
+IsWriteBlock names = IsTextBlock (IsWriteUse names) names
 
 -- ---- graphs
 

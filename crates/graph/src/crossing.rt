@@ -4,16 +4,23 @@
 //! by itself, so there is a law for each part.
 
 ghost use denote.Param.Send.{IsSend, IsSync};
+ghost use Rattle.terms.specs.contracts.name.ItemCollection as of_item;
+ghost use Rattle.terms.specs.contracts.name.TagCollection as of_tag;
 ghost use Rattle.steptree.specs.contracts.checked.Checked as of_body;
 ghost use Rattle.steptree.specs.contracts.code.Formula as of_formula;
 ghost use Rattle.steptree.specs.contracts.code.Instruction as of_instruction;
+ghost use Rattle.steptree.specs.contracts.components.Components as of_components;
+ghost use Rattle.steptree.specs.contracts.simple.Simple as of_simple;
+ghost use Rattle.steptree.specs.contracts.slot.Slot as of_slot;
 ghost use Rattle.graph.specs.contracts.graph.Graph as of_graph;
 ghost use Rattle.graph.specs.contracts.graph.Prescribed as of_step;
 ghost use Rattle.graph.specs.contracts.numbered.Numbered as of_names;
 
 use crate::graph::Prescribed;
 use indexmap::IndexMap;
-use steptree::{Block, Body, Code, Components, Expression, Formula, Instruction, Link, Statement};
+use steptree::{
+    Block, Body, Code, Components, Expression, Formula, Instruction, Link, Simple, Slot, Statement,
+};
 use terms::{StepCollection, TagCollection};
 
 /// Gives its caller the clause that trait search finds for a type.
@@ -42,6 +49,38 @@ fn names_are_shared<V: Sync>()
     is_shared::<IndexMap<String, V>>();
 }
 
+/// The components of a key.
+fn components_go()
+    ensures { IsSend of_components.the_row }
+{
+    goes::<Expression>();
+    goes::<Components>();
+}
+
+/// The same for sharing between threads.
+fn components_are_shared()
+    ensures { IsSync of_components.the_row }
+{
+    is_shared::<Expression>();
+    is_shared::<Components>();
+}
+
+/// A statement without blocks.
+fn simple_statements_go()
+    ensures { IsSend (of_simple.the_row of_slot.the_row of_item.the_row of_tag.the_row of_components.the_row) }
+{
+    components_go();
+    goes::<Simple>();
+}
+
+/// The same for sharing between threads.
+fn simple_statements_are_shared()
+    ensures { IsSync (of_simple.the_row of_slot.the_row of_item.the_row of_tag.the_row of_components.the_row) }
+{
+    components_are_shared();
+    is_shared::<Simple>();
+}
+
 /// An expression in the form in which it is evaluated.
 fn formulas_go()
     ensures { IsSend of_formula.the_row }
@@ -65,7 +104,7 @@ fn instructions_go()
     ensures { IsSend of_instruction.the_row }
 {
     goes::<Expression>();
-    goes::<Components>();
+    simple_statements_go();
     formulas_go();
     goes::<Instruction>();
 }
@@ -74,10 +113,10 @@ fn instructions_go()
 fn instructions_are_shared()
     ensures { IsSync of_instruction.the_row }
 {
+    is_shared::<Slot>();
     is_shared::<Expression>();
-    is_shared::<Components>();
+    simple_statements_are_shared();
     formulas_are_shared();
-    is_shared::<Instruction>();
 }
 
 /// The body of a step, with its code.
@@ -85,7 +124,7 @@ fn bodies_go()
     ensures { IsSend of_body.the_row }
 {
     goes::<Expression>();
-    goes::<Components>();
+    simple_statements_go();
     goes::<Statement>();
     goes::<Block>();
     instructions_go();
@@ -99,7 +138,7 @@ fn bodies_are_shared()
     ensures { IsSync of_body.the_row }
 {
     is_shared::<Expression>();
-    is_shared::<Components>();
+    simple_statements_are_shared();
     is_shared::<Statement>();
     is_shared::<Block>();
     instructions_are_shared();

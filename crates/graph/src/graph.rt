@@ -69,11 +69,11 @@ impl Drop for Graph {
 impl Model for Graph {
     ghost use Rattle.graph.specs.Graph.{Graph as Seen};
     ghost use Rattle.std.specs.Coded.{codes};
-    ghost use Rattle.steptree.specs.CodesOfBlocks.{numbered_code};
+    ghost use Rattle.steptree.specs.contracts.body.Body as of_body;
 
     ghost Value = { Seen };
 
-    ghost coded = { Prim.hlevel (codes, numbered_code) };
+    ghost coded = { Prim.hlevel (codes, of_body.the_row.coded) };
 
     ghost use Rattle.graph.specs.Inside.{graph_seen, IsKept};
 

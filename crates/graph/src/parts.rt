@@ -21,11 +21,11 @@ pub(crate) struct Parts<'a> {
 impl<'a> Model for Parts<'a> {
     ghost use Rattle.graph.specs.Graph.{Graph as Seen, IsGraph};
     ghost use Rattle.std.specs.Coded.{codes};
-    ghost use Rattle.steptree.specs.CodesOfBlocks.{numbered_code};
+    ghost use Rattle.steptree.specs.contracts.body.Body as of_body;
 
     ghost Value = { Seen };
 
-    ghost coded = { Prim.hlevel (codes, numbered_code) };
+    ghost coded = { Prim.hlevel (codes, of_body.the_row.coded) };
 
     ghost use Rattle.graph.specs.Parts.{parts_seen};
 

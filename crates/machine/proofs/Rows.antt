@@ -24,7 +24,8 @@ use Rattle.machine.specs.Legal.{IsLegal, AreLegal, IsBlocked, IsQuiet}
 use Rattle.machine.specs.Laws.{IsThere}
 use Rattle.steptree.specs.declared.expression.Operator.TheVariants as operator
 use Rattle.steptree.specs.Tree.{Variable, Operation}
-use Rattle.steptree.specs.Tree.{End, Get, PutItem}
+use Rattle.steptree.specs.Tree.{End, Do}
+use Rattle.steptree.specs.declared.simple.Simple.TheVariants.{Get, PutItem}
 use Rattle.graph.specs.Examples.{behind, fibonacci}
 use Rattle.machine.specs.Examples.{twice, fib, n, add, put_fib, added, in_two_parts, one_by_one, one_number, conflict, enabled, FiveNumbers, OneNumber, Conflict, PutTwice, Refused}
 use Rattle.machine.proofs.Sets.{either, not_both, the_first, Within, of_list}
@@ -93,7 +94,7 @@ may_tag k = ((_, refl, refl), refl)
 -- along two reads the body gives their sum
 gives : (X : Facts) (k : ℕ) (a b x y : ℤ) (sum : ℤ)
     → (of_one of_two : Producer) → X (item (record { collection = record { 0 = 0 }; key = a ∷ [] }) x of_one) ≡ true → X (item (record { collection = record { 0 = 0 }; key = b ∷ [] }) y of_two) ≡ true
-    → Along (record { read = Get 1 (record { 0 = 0 }) (behind 1 ∷ []) (Get 2 (record { 0 = 0 }) (behind 2 ∷ []) End); write = PutItem (record { 0 = 0 }) (Variable 0 ∷ []) (Operation operator.Add (Variable 1) (Variable 2)) End })
+    → Along (record { read = Do (Get 1 (record { 0 = 0 }) (behind 1 ∷ [])) (Do (Get 2 (record { 0 = 0 }) (behind 2 ∷ [])) End); write = Do (PutItem (record { 0 = 0 }) (Variable 0 ∷ []) (Operation operator.Add (Variable 1) (Variable 2))) End })
     (pos k ∷ []) ((record { collection = record { 0 = 0 }; key = a ∷ [] }, x) ∷ (record { collection = record { 0 = 0 }; key = b ∷ [] }, y) ∷ []) (Gives (put.Item (fib k) sum ∷ []))
     → BodyGives G X (add k) (put.Item (fib k) sum ∷ [])
 gives X k a b x y sum of_one of_two one two along = record {

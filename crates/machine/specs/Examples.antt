@@ -11,7 +11,9 @@ use Rattle.terms.specs.declared.event.Event.{Event}
 use Rattle.terms.specs.declared.event.Event.TheVariants.{EnvItem, EnvTag, Done, Stopped}
 use Rattle.terms.specs.Facts.{Fact, item}
 use Rattle.terms.specs.Sets.{among, stated, put_by_environment}
-use Rattle.steptree.specs.Tree.{Number, Variable, Block, End, PutItem}
+use Rattle.steptree.specs.Tree.{Number, Variable, End, Do}
+use Rattle.steptree.specs.Simple.{Block}
+use Rattle.steptree.specs.declared.simple.Simple.TheVariants.{PutItem}
 use Rattle.steptree.specs.Bodies.{Asks}
 use Rattle.graph.specs.Graph.{Graph, BodyMeans}
 use Rattle.graph.specs.Examples.{fibonacci}
@@ -73,7 +75,7 @@ pub record Conflict : Type 0 where
 -- [out: i]; <t: i>; <t> :: (two); (two) -> [out]; env -> <t>; [out] -> env;
 -- step two(k) { read { } write { put [out: k] = 1; put [out: k] = 1; } }
 abbrev pub put_out : Block → Block
-put_out rest = PutItem (record { 0 = 0 }) (Variable 0 ∷ []) (Number (pos 1)) rest
+put_out rest = Do (PutItem (record { 0 = 0 }) (Variable 0 ∷ []) (Number (pos 1))) rest
 
 abbrev pub twice : Graph
 twice = record {

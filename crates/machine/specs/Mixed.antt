@@ -7,7 +7,8 @@ use Rattle.terms.specs.declared.producer.Producer.TheVariants.{By}
 use Rattle.terms.specs.Facts.{Fact, tag, item, done}
 use Rattle.terms.specs.Sets.{among}
 use Rattle.steptree.specs.Tree.{Number, Variable}
-use Rattle.steptree.specs.Tree.{End, Get, PutItem}
+use Rattle.steptree.specs.Tree.{End, Do}
+use Rattle.steptree.specs.declared.simple.Simple.TheVariants.{Get, PutItem}
 use Rattle.graph.specs.Graph.{Graph, Step}
 use Rattle.machine.specs.Meaning.{Meaning}
 use Rattle.machine.specs.State.{IsReached}
@@ -34,7 +35,7 @@ putter name value = record {
   reads = false ∷ false ∷ [];
   item_puts = true ∷ false ∷ [];
   tag_puts = false ∷ [];
-  body = record { read = End; write = PutItem (record { 0 = 0 }) [] (Number (pos value)) End };
+  body = record { read = End; write = Do (PutItem (record { 0 = 0 }) [] (Number (pos value))) End };
 }
 
 abbrev pub passing : Step
@@ -46,7 +47,7 @@ passing = record {
   reads = true ∷ false ∷ [];
   item_puts = false ∷ true ∷ [];
   tag_puts = false ∷ [];
-  body = record { read = Get 0 (record { 0 = 0 }) [] End; write = PutItem (record { 0 = 1 }) [] (Variable 0) End };
+  body = record { read = Do (Get 0 (record { 0 = 0 }) []) End; write = Do (PutItem (record { 0 = 1 }) [] (Variable 0)) End };
 }
 
 abbrev pub two_putters : Graph

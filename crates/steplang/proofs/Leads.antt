@@ -9,7 +9,7 @@ use Rattle.steplang.specs.declared.machine.Step.TheVariants.{On, Asked, Failed, 
 use Rattle.steplang.specs.Machine.{LeadsFrom}
 
 module _ (one two : List Read → Outcome) (same : (reads : List Read) → two reads ≡ one reads) (new : Machine) (after : Progress) where
-  pub leads : (step : Step) → LeadsFrom one step new after → LeadsFrom two step new after
+  leads : (step : Step) → LeadsFrom one step new after → LeadsFrom two step new after
   leads On on = λ reads. same reads ∙ on reads
   leads (Asked variable) asked = (same [] ∙ asked.0, λ value reads. same ((new.asked, value) ∷ reads) ∙ asked.1 value reads)
   leads (Failed kind) failed = λ reads. same reads ∙ failed reads

@@ -1,11 +1,11 @@
 -- An instance while its code runs, seen as the outcome that is still to come.
 use Rattle.std.specs.Prelude.{◌≡◌, ℕ, ◌+◌, ◌-◌, ◌*◌, ◌<◌, ◌≤◌, ℤ, List, [], ◌∷◌, length, reverse, Option, None, Some, IfOk, Result}
 use Rattle.steptree.specs.declared.body.TheConstants.{BUDGET}
-use Rattle.terms.specs.declared.put.Put.{Put}
+use Rattle.steptree.specs.declared.simple.Action.{Action}
 use Rattle.steptree.specs.declared.code.Instruction.{Instruction}
 use Rattle.steptree.specs.declared.code.Instruction.TheVariants as instruction
 use Rattle.steptree.specs.declared.code.Loop.{Loop}
-use Rattle.steptree.specs.Run.{Read, State, Outcome, ends, faults, asks, assigned, putting}
+use Rattle.steptree.specs.Run.{Read, State, Outcome, ends, faults, asks, assigned, acting}
 use Rattle.steptree.specs.Executed.{carried_out, executed}
 use Rattle.steplang.specs.declared.machine.Step.{Step}
 use Rattle.steplang.specs.declared.machine.Step.TheVariants.{On, Asked, Failed, Ended}
@@ -37,9 +37,9 @@ outcome_from machine progress reads = outcome_of_state machine progress (state_o
 abbrev pub outcome_after : Instruction → Machine → Progress → List Read → Outcome
 outcome_after one machine progress reads = carried_out (executed (BUDGET - progress.counted) machine.code.now) (open_loops machine) one (state_of machine progress reads)
 
--- what comes of a put that was counted, and after which the code goes on at `next`
-abbrev pub outcome_of_put : Put → ℕ → Machine → Progress → List Read → Outcome
-outcome_of_put put next machine progress reads = putting put (state_of machine progress reads) (executed (BUDGET - progress.counted) machine.code.now (open_loops machine) next)
+-- what comes of what a simple statement does, after which the code goes on at `next`
+abbrev pub outcome_of_action : Action → ℕ → Machine → Progress → List Read → Outcome
+outcome_of_action action next machine progress reads = acting action (state_of machine progress reads) (executed (BUDGET - progress.counted) machine.code.now (open_loops machine) next)
 
 -- the variable gets the value: for any reads, the outcome that is to come now is the one from the state in which it has it
 abbrev pub GetsValue : ℕ → ℤ → Machine → Machine → Type 0
@@ -80,6 +80,4 @@ IsRare (instruction.Assign variable value next) = ⊥
 IsRare (instruction.Branch condition first second) = ⊥
 IsRare instruction.End = Unit {0}
 IsRare (instruction.For variable from to turn begin after) = Unit {0}
-IsRare (instruction.Get variable collection components next) = Unit {0}
-IsRare (instruction.PutItem collection components value next) = Unit {0}
-IsRare (instruction.PutTag collection components next) = Unit {0}
+IsRare (instruction.Do statement next) = Unit {0}

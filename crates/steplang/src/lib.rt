@@ -2,6 +2,7 @@
 //! trees of the bodies and their check are in `steptree`, and are re-exported here.
 #![tactic(auto)]
 
+mod action;
 mod machine;
 mod outcome;
 mod parked;
@@ -15,5 +16,6 @@ pub use room::Room;
 pub use run::Run;
 pub use steptree::{
     Block, Body, CheckError, CheckFault, Checked, Components, Declared, Expression, Name,
-    NamedBlock, NamedExpression, Node, Operator, Sheet, Slot, Statement, Step, check,
+    NamedBlock, NamedExpression, NamedSimple, Node, Operator, Sheet, Simple, Slot, Statement, Step,
+    check,
 };

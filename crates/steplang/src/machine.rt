@@ -2,16 +2,18 @@ ghost use Rattle.std.specs.Prelude.{◌≡◌, ◌≢◌, ◌<ℤ◌, slice_get,
 ghost use Rattle.std.specs.Ordering.{int_eq};
 ghost use Rattle.steptree.specs.declared.body.TheConstants.{BUDGET};
 ghost use Rattle.steptree.specs.declared.code.Instruction.TheVariants as instruction;
+ghost use Rattle.steptree.specs.declared.simple.Action.TheVariants.{Puts};
 ghost use Rattle.steptree.specs.Compiled.{Stands};
 ghost use Rattle.steptree.specs.Executed.{advanced};
 ghost use Rattle.steplang.specs.Stages.{IsStarted};
 ghost use Rattle.steplang.specs.declared.machine.Step.TheVariants.{On};
-ghost use Rattle.steplang.specs.Machine.{outcome_from, outcome_of_put, GetsValue, LeadsFrom, CarriesOut, open_loops, Falls, OpensOne, IsRare, Carries};
+ghost use Rattle.steplang.specs.Machine.{outcome_from, outcome_of_action, GetsValue, LeadsFrom, CarriesOut, open_loops, Falls, OpensOne, IsRare, Carries};
 
-use crate::value::{Variables, evaluate, evaluate_expression, evaluate_key, variables_of};
+use crate::action::action;
+use crate::value::{Variables, evaluate, evaluate_expression, variables_of};
 use std::alloc::{AllocError, Global};
-use steptree::{BUDGET, Checked, Components, Expression, Instruction, Loop, Slot};
-use terms::{Addr, FaultKind, ItemCollection, Key, MOST_PUTS, Put, Tag, TagCollection};
+use steptree::{Action, BUDGET, Checked, Expression, Instruction, Loop, Simple, Slot};
+use terms::{Addr, FaultKind, ItemCollection, Key, MOST_PUTS, Put};
 
 /// The result of a step. It is small, since each statement returns one.
 #[derive(Clone, Copy)]
@@ -267,75 +269,53 @@ impl<'a> Machine<'a> {
         self.variables[innermost.variable.place()] = innermost.next;
     }
 
-    // Asks for an item, whose value is for a variable.
-    #[tactic(auto, using(crate::proofs::Answered::answers))]
-    fn get(
+    // Does a simple statement.
+    fn simply(
         &mut self,
         progress: &mut Progress,
-        variable: Slot,
-        collection: ItemCollection,
-        components: &Components,
+        statement: &Simple,
         next: usize,
-    ) -> Step
-        ensures leads { CarriesOut (instruction.Get variable collection components.now next) self.old progress.old self.new progress.new result }
-        ensures opens { OpensOne self.old progress.old result self.new progress.new }
+    ) -> Result<Step, AllocError>
+        ensures leads { Carries (instruction.Do statement.now next) self.old progress.old self.new progress.new result }
+        ensures opens { IfOk result (λ step. OpensOne self.old progress.old step self.new progress.new) }
         ensures same { self.new.code ≡ self.old.code }
     {
-        match evaluate_key(components, &self.variables) {
-            Ok(key) => {
-                progress.at = next;
-                self.asked = Addr { collection, key };
-                Step::Asked(variable)
-            }
-            Err(kind) => Step::Failed(kind),
+        match action(statement, &self.variables) {
+            Ok(action) => self.act(progress, action, next),
+            Err(kind) => Ok(Step::Failed(kind)),
         }
     }
 
-    // Puts an item.
-    fn put_item(
+    // Does what a simple statement came to.
+    #[tactic(auto, using(crate::proofs::Answered::answers))]
+    fn act(
         &mut self,
         progress: &mut Progress,
-        collection: ItemCollection,
-        components: &Components,
-        value: &Expression,
+        action: Action,
         next: usize,
     ) -> Result<Step, AllocError>
-        ensures leads { Carries (instruction.PutItem collection components.now value.now next) self.old progress.old self.new progress.new result }
+        ensures leads { IfOk result (λ step. LeadsFrom (outcome_of_action action next self.old progress.old) step self.new progress.new) }
         ensures opens { IfOk result (λ step. OpensOne self.old progress.old step self.new progress.new) }
         ensures same { self.new.code ≡ self.old.code }
     {
-        let key = match evaluate_key(components, &self.variables) {
-            Ok(key) => key,
-            Err(kind) => return Ok(Step::Failed(kind)),
-        };
-        let value = match evaluate_expression(value, &self.variables) {
-            Ok(value) => value,
-            Err(kind) => return Ok(Step::Failed(kind)),
-        };
-        self.put(progress, Put::Item(Addr { collection, key }, value), next)
-    }
-
-    // Puts a tag.
-    fn put_tag(
-        &mut self,
-        progress: &mut Progress,
-        collection: TagCollection,
-        components: &Components,
-        next: usize,
-    ) -> Result<Step, AllocError>
-        ensures leads { Carries (instruction.PutTag collection components.now next) self.old progress.old self.new progress.new result }
-        ensures opens { IfOk result (λ step. OpensOne self.old progress.old step self.new progress.new) }
-        ensures same { self.new.code ≡ self.old.code }
-    {
-        match evaluate_key(components, &self.variables) {
-            Ok(key) => self.put(progress, Put::Tag(Tag { collection, key }), next),
-            Err(kind) => Ok(Step::Failed(kind)),
+        match action {
+            Action::Assigns(variable, value) => {
+                self.variables[variable.place()] = value;
+                progress.at = next;
+                Ok(Step::On)
+            }
+            Action::Gets(variable, address) => {
+                self.asked = address;
+                progress.at = next;
+                Ok(Step::Asked(variable))
+            }
+            Action::Puts(put) => self.put(progress, put, next),
         }
     }
 
     // Makes one more put, if the limit allows it.
     fn put(&mut self, progress: &mut Progress, put: Put, next: usize) -> Result<Step, AllocError>
-        ensures leads { IfOk result (λ step. LeadsFrom (outcome_of_put put next self.old progress.old) step self.new progress.new) }
+        ensures leads { IfOk result (λ step. LeadsFrom (outcome_of_action (Puts put) next self.old progress.old) step self.new progress.new) }
         ensures opens { IfOk result (λ step. OpensOne self.old progress.old step self.new progress.new) }
         ensures same { self.new.code ≡ self.old.code }
     {
@@ -375,37 +355,11 @@ impl<'a> Machine<'a> {
                 }
                 self.open(progress, *variable, from, to, *turn, *begin, *after)
             }
-            Instruction::Get {
-                variable,
-                collection,
-                components,
-                next,
-            } => {
+            Instruction::Do { statement, next } => {
                 if !progress.count() {
                     return Ok(Step::Failed(FaultKind::Budget));
                 }
-                Ok(self.get(progress, *variable, *collection, components, *next))
-            }
-            Instruction::PutItem {
-                collection,
-                components,
-                value,
-                next,
-            } => {
-                if !progress.count() {
-                    return Ok(Step::Failed(FaultKind::Budget));
-                }
-                self.put_item(progress, *collection, components, value, *next)
-            }
-            Instruction::PutTag {
-                collection,
-                components,
-                next,
-            } => {
-                if !progress.count() {
-                    return Ok(Step::Failed(FaultKind::Budget));
-                }
-                self.put_tag(progress, *collection, components, *next)
+                self.simply(progress, statement, *next)
             }
         }
     }

@@ -1,6 +1,7 @@
 -- The code of blocks, as instructions are added after it.
 use Rattle.std.proofs.Common.{◌≡◌, ℕ, zero, suc, List, [], ◌∷◌, ◌++◌, length, refl, sym, subst}
-use Rattle.steptree.specs.Tree.{Block, End, Assign, If, For, Get, PutItem, PutTag}
+use Rattle.steptree.specs.Tree.{End, Do, If, For}
+use Rattle.steptree.specs.Simple.{Block}
 use Rattle.steptree.specs.declared.code.Instruction.{Instruction}
 use Rattle.steptree.specs.Compiled.{Stands, IsCode, Keeps}
 
@@ -27,15 +28,9 @@ keeps_on old middle new first second at one stands = second at one (first at one
 -- the code of a block stays its code
 pub stays : (old new : List Instruction) → Keeps old new → (at : ℕ) (block : Block) (stop : ℕ) → IsCode old at block stop → IsCode new at block stop
 stays old new keeps at End stop is = is
-stays old new keeps at (Assign variable value rest) stop is =
+stays old new keeps at (Do statement rest) stop is =
     (is.0, is.1, keeps at _ is.2, is.3, stays old new keeps is.1 rest stop is.4)
 stays old new keeps at (If condition first second rest) stop is =
     (is.0, is.1, is.2, is.3, keeps at _ is.4, is.5, stays old new keeps is.1 first is.3 is.6, stays old new keeps is.2 second is.3 is.7, stays old new keeps is.3 rest stop is.8)
 stays old new keeps at (For variable from to block rest) stop is =
     (is.0, is.1, is.2, keeps at _ is.3, keeps is.0 _ is.4, stays old new keeps is.1 block is.0 is.5, stays old new keeps is.2 rest stop is.6)
-stays old new keeps at (Get variable collection components rest) stop is =
-    (is.0, keeps at _ is.1, stays old new keeps is.0 rest stop is.2)
-stays old new keeps at (PutItem collection components value rest) stop is =
-    (is.0, keeps at _ is.1, stays old new keeps is.0 rest stop is.2)
-stays old new keeps at (PutTag collection components rest) stop is =
-    (is.0, keeps at _ is.1, stays old new keeps is.0 rest stop is.2)

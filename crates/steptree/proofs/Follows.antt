@@ -6,20 +6,22 @@ use Rattle.std.proofs.lemmas.Bool.Decides.{nat_tests}
 use Rattle.std.specs.Ordering.{int_eq}
 use Rattle.terms.specs.declared.name.Addr.{Addr}
 use Rattle.terms.specs.declared.put.Put.{Put}
-use Rattle.terms.specs.declared.put.Put.TheVariants as put
 use Rattle.terms.specs.declared.put.TheConstants.{MOST_PUTS}
 use Rattle.terms.specs.declared.fault.FaultKind.{FaultKind}
 use Rattle.terms.specs.declared.fault.FaultKind.TheVariants.{Budget, TooManyPuts}
 use Rattle.terms.specs.Same.{is_same}
-use Rattle.steptree.specs.Tree.{Block, End, Assign, If, For, Get, PutItem, PutTag}
+use Rattle.steptree.specs.Tree.{End, Do, If, For}
+use Rattle.steptree.specs.Simple.{NumberedSimple, Block, action_of}
+use Rattle.steptree.specs.declared.simple.Action.{Action}
+use Rattle.steptree.specs.declared.simple.Action.TheVariants.{Assigns, Gets, Puts}
 use Rattle.steptree.specs.declared.body.TheConstants.{BUDGET}
 use Rattle.steptree.specs.declared.code.Instruction.{Instruction}
 use Rattle.steptree.specs.declared.code.Instruction.TheVariants as instruction
 use Rattle.steptree.specs.declared.code.Loop.{Loop}
-use Rattle.steptree.specs.Run.{Read, State, Outcome, ends, faults, asks, strays, followed, counting, given, assigned, answered, putting, turns, run}
-use Rattle.steptree.specs.Values.{value_of, values_of}
+use Rattle.steptree.specs.Run.{Read, State, Outcome, ends, faults, asks, strays, followed, counting, given, assigned, answered, putting, acting, doing, turns, run}
+use Rattle.steptree.specs.Values.{value_of}
 use Rattle.steptree.specs.Executed.{Onward, advanced, performed, turned, stepped, executed}
-use Rattle.steptree.specs.Compiled.{Stands, IsCode}
+use Rattle.steptree.specs.Compiled.{Stands, IsCode, does}
 
 -- what is still to be done: a block, or the turns of a loop that are left, from a number up to but not including another
 pub data Rest : Type 0 where
@@ -79,6 +81,19 @@ module _ (more : List Rest) where
   puts one state f g same =
       chosen (nat_lt (length state.puts) MOST_PUTS) _ _ _ _ (λ below. same _ refl) (sym (unwound_faults more TooManyPuts state.reads))
 
+  acts : (action : Action) (state : State) (f g : State → Outcome) → ((now : State) → now.counted ≡ state.counted → f now ≡ unwound more (g now)) → acting action state f ≡ unwound more (acting action state g)
+  acts (Assigns slot value) state f g same = same _ refl
+  acts (Gets slot address) state f g same = answers address state.reads _ _ (λ value reads. same _ refl)
+  acts (Puts one) state f g same = puts one state f g same
+
+  simply : (statement : NumberedSimple) (state : State) (f g : State → Outcome) → ((now : State) → now.counted ≡ state.counted → f now ≡ unwound more (g now)) → doing statement state f ≡ unwound more (doing statement state g)
+  simply statement state f g same = gives (action_of statement state.variables) state _ _ (λ action. acts action state f g same)
+
+-- an instruction that does a simple statement
+does_it : (onward : Onward) (loops : List Loop) (one : Instruction) (statement : NumberedSimple) (next : ℕ) (state : State) (out : Outcome) → does one ≡ Some (statement, next)
+    → performed onward loops (Some one) state out ≡ counting state (λ now. doing statement now (onward loops next))
+does_it onward loops one statement next state out is = grind arith
+
 under : (a b : ℕ) → nat_lt a b ≡ true → suc a ≤ b
 under a b is = grind (arith, nat_tests)
 
@@ -125,12 +140,11 @@ module _ (code : List Instruction) (left : ℕ) (onward : Onward)
       → stepped onward code loops at state ≡ unwound more (ends state)
   follows [] loops at state ahead sum = stands_for loops instruction.End at state (ends state) ahead (λ out. refl)
   follows (Block' End ∷ more) loops at state ahead sum = follows more loops at state (subst (λ (n : ℕ). IsAhead code loops n more) (sym ahead.1) ahead.2) sum
-  follows (Block' (Assign variable value rest) ∷ more) loops at state ahead sum =
+  follows (Block' (Do statement rest) ∷ more) loops at state ahead sum =
       let is = ahead.1 in
-      stands_for loops (instruction.Assign variable is.0 is.1) at state _ is.2 (λ out. refl)
-      ∙ counts more state _ _ (λ now below one.
-      ap (λ e. given (value_of e now.variables) now (λ v. onward loops is.1 (assigned variable v now))) is.3
-      ∙ gives more (value_of value now.variables) now _ _ (λ v. goes_on (Block' rest ∷ more) loops is.1 (assigned variable v now) (ahead.0, is.4, ahead.2) state sum below one))
+      stands_for loops is.0 at state _ is.2 (λ out. does_it onward loops is.0 statement is.1 state out is.3)
+      ∙ counts more state _ _ (λ now below one. simply more statement now _ _ (λ after same.
+      goes_on (Block' rest ∷ more) loops is.1 after (ahead.0, is.4, ahead.2) state sum below (same ∙ one)))
   follows (Block' (If condition first second rest) ∷ more) loops at state ahead sum =
       let is = ahead.1 in
       stands_for loops (instruction.Branch is.0 is.1 is.2) at state _ is.4 (λ out. refl)
@@ -147,22 +161,6 @@ module _ (code : List Instruction) (left : ℕ) (onward : Onward)
       ∙ counts more state _ _ (λ now below one. gives more (value_of from now.variables) now _ _ (λ a. gives more (value_of to now.variables) now _ _ (λ b.
       goes_on (Turns variable a b block ∷ Block' rest ∷ more) (record { variable = variable; next = a; to = b; begin = is.1; after = is.2 } ∷ loops) is.0 now
       (is.1, is.2, loops, refl, is.4, is.5, (ahead.0, is.6, ahead.2)) state sum below one)))
-  follows (Block' (Get variable collection components rest) ∷ more) loops at state ahead sum =
-      let is = ahead.1 in
-      stands_for loops (instruction.Get variable collection components is.0) at state _ is.1 (λ out. refl)
-      ∙ counts more state _ _ (λ now below one. gives more (values_of components now.variables) now _ _ (λ key. answers more (record { collection = collection; key = key }) now.reads _ _ (λ v reads.
-      goes_on (Block' rest ∷ more) loops is.0 (assigned variable v (record now { reads = reads })) (ahead.0, is.2, ahead.2) state sum below one)))
-  follows (Block' (PutItem collection components value rest) ∷ more) loops at state ahead sum =
-      let is = ahead.1 in
-      stands_for loops (instruction.PutItem collection components value is.0) at state _ is.1 (λ out. refl)
-      ∙ counts more state _ _ (λ now below one. gives more (values_of components now.variables) now _ _ (λ key. gives more (value_of value now.variables) now _ _ (λ v.
-      puts more (put.Item (record { collection = collection; key = key }) v) now _ _ (λ after same.
-      goes_on (Block' rest ∷ more) loops is.0 after (ahead.0, is.2, ahead.2) state sum below (same ∙ one)))))
-  follows (Block' (PutTag collection components rest) ∷ more) loops at state ahead sum =
-      let is = ahead.1 in
-      stands_for loops (instruction.PutTag collection components is.0) at state _ is.1 (λ out. refl)
-      ∙ counts more state _ _ (λ now below one. gives more (values_of components now.variables) now _ _ (λ key. puts more (put.Tag (record { collection = collection; key = key })) now _ _ (λ after same.
-      goes_on (Block' rest ∷ more) loops is.0 after (ahead.0, is.2, ahead.2) state sum below (same ∙ one))))
   follows (Turns variable next to block ∷ more) loops at state ahead sum =
       subst (λ (l : List Loop). stepped onward code l at state ≡ unwound more (turns (run block) variable next (int_gap next to) state)) (sym ahead.3)
       (ap (λ (o : Option Instruction). performed onward (record { variable = variable; next = next; to = to; begin = ahead.0; after = ahead.1 } ∷ ahead.2) o state (stepped onward code ahead.2 ahead.1 state)) ahead.4

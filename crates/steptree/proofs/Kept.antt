@@ -1,24 +1,26 @@
 -- A block that keeps to a sheet reads and puts only what the sheet allows.
-use Rattle.std.proofs.Common.{◌≡◌, ℕ, zero, suc, ℤ, pos, ◌+ℤ◌, Bool, true, false, List, [], ◌∷◌, ◌++◌, length, nat_lt, if◌then◌else◌, Some, refl, sym, ap, subst, ◌∙◌}
+use Rattle.std.proofs.Common.{◌≡◌, ℕ, zero, suc, ℤ, pos, ◌+ℤ◌, Bool, true, false, List, [], ◌∷◌, ◌++◌, length, nat_lt, if◌then◌else◌, Some, refl, sym, ap, subst, ◌∙◌, arith}
 use Rattle.std.specs.Prelude.{⊤, Result, Ok, Err}
 use Rattle.std.specs.List.{AllByRecursion}
 use Rattle.std.specs.Int.{int_gap}
 use Rattle.std.specs.Ordering.{int_eq}
 use Rattle.terms.specs.declared.name.Addr.{Addr}
 use Rattle.terms.specs.declared.put.Put.{Put}
-use Rattle.terms.specs.declared.put.Put.TheVariants as put
 use Rattle.terms.specs.declared.fault.FaultKind.{FaultKind}
 use Rattle.terms.specs.declared.fault.FaultKind.TheVariants.{Budget, TooManyPuts}
 use Rattle.terms.specs.Same.{is_same, same_address}
-use Rattle.steptree.specs.Tree.{Expression, Block, End, Assign, If, For, Get, PutItem, PutTag}
+use Rattle.steptree.specs.Tree.{Expression, End, Do, If, For}
+use Rattle.steptree.specs.Simple.{NumberedSimple, Block, action_of}
+use Rattle.steptree.specs.declared.simple.Action.{Action}
+use Rattle.steptree.specs.declared.simple.Action.TheVariants.{Assigns, Gets, Puts}
 use Rattle.steptree.specs.declared.body.Body.{Body}
 use Rattle.steptree.specs.declared.body.TheConstants.{BUDGET}
 use Rattle.terms.specs.declared.put.TheConstants.{MOST_PUTS}
 use Rattle.steptree.specs.Nameable.{Nameable}
 use Rattle.steptree.specs.Values.{with_value, value_of, values_of}
-use Rattle.steptree.specs.Run.{Read, State, Outcome, ends, faults, asks, strays, followed, counting, given, assigned, answered, putting, turns, run}
+use Rattle.steptree.specs.Run.{Read, State, Outcome, ends, faults, asks, strays, followed, counting, given, assigned, answered, putting, acting, turns, run}
 use Rattle.steptree.specs.Bodies.{Ending, Gives, Faults, Asks, used_up, ending_of, begun, outcome_of, Along}
-use Rattle.steptree.specs.Sheet.{MayRead, MayPutItem, MayPutTag, KeepsTo, BodyKeepsTo, ReadIsAllowed, PutIsAllowed, EndingIsAllowed}
+use Rattle.steptree.specs.Sheet.{AllowsAll, KeepsTo, BodyKeepsTo, ReadIsAllowed, PutIsAllowed, EndingIsAllowed}
 
 -- ---- as many values as expressions
 
@@ -116,13 +118,31 @@ module _ (sheet : Nameable) where
       (λ now still. behind now.reads (block (assigned slot value now)) (turns block slot (value +ℤ pos 1) left) (keeps (assigned slot value now) still) (all_turns block keeps slot left (value +ℤ pos 1)))
       state puts
 
+  -- ---- simple statements
+
+  abbrev ActionIsAllowed : Action → Type 0
+  ActionIsAllowed (Assigns slot value) = ⊤
+  ActionIsAllowed (Gets slot address) = ReadIsAllowed sheet address
+  ActionIsAllowed (Puts one) = PutIsAllowed sheet one
+
+  acts : (action : Action) (next : State → Outcome) → ActionIsAllowed action → Keeps next → Keeps (λ state. acting action state next)
+  acts (Assigns slot value) next allowed keeps state puts = keeps (assigned slot value state) puts
+  acts (Gets slot address) next allowed keeps state puts =
+      with_answer address state.reads (λ value reads. next (assigned slot value (record state { reads = reads }))) allowed (λ value reads. keeps (assigned slot value (record state { reads = reads })) puts)
+  acts (Puts one) next allowed keeps state puts = put_one one next allowed keeps state puts
+
+  -- a statement that keeps to the sheet does only what is allowed
+  allowed : (statement : NumberedSimple) (variables : List ℤ) (action : Action) → AllowsAll sheet statement → action_of statement variables ≡ Ok action → ActionIsAllowed action
+  allowed statement variables action is does = grind (arith, as_many)
+
   -- ---- blocks and bodies
 
   blocks : (block : Block) → KeepsTo sheet block → Keeps (run block)
   blocks End is state puts = (λ all. all, puts)
-  blocks (Assign slot value rest) is state puts =
-      counted (λ now. given (value_of value now.variables) now (λ v. run rest (assigned slot v now)))
-      (λ now still. with_result (value_of value now.variables) now (λ v. run rest (assigned slot v now)) (λ v same. blocks rest is (assigned slot v now) still))
+  blocks (Do statement rest) is state puts =
+      counted (λ now. given (action_of statement now.variables) now (λ action. acting action now (run rest)))
+      (λ now still. with_result (action_of statement now.variables) now (λ action. acting action now (run rest)) (λ action does.
+      acts action (run rest) (allowed statement now.variables action is.0 does) (blocks rest is.1) now still))
       state puts
   blocks (If condition first second rest) is state puts =
       counted (λ now. given (value_of condition now.variables) now (λ v. followed (if int_eq v (pos 0) then run second now else run first now) (run rest)))
@@ -135,26 +155,6 @@ module _ (sheet : Nameable) where
       (λ now still. with_result (value_of from now.variables) now (λ a. given (value_of to now.variables) now (λ b. followed (turns (run block) slot a (int_gap a b) now) (run rest))) (λ a here.
       with_result (value_of to now.variables) now (λ b. followed (turns (run block) slot a (int_gap a b) now) (run rest)) (λ b there.
       behind now.reads (turns (run block) slot a (int_gap a b) now) (run rest) (all_turns (run block) (blocks block is.0) slot (int_gap a b) a now still) (blocks rest is.1))))
-      state puts
-  blocks (Get slot collection components rest) is state puts =
-      counted (λ now. given (values_of components now.variables) now (λ key. answered (record { collection = collection; key = key }) now.reads (λ v reads. run rest (assigned slot v (record now { reads = reads })))))
-      (λ now still. with_result (values_of components now.variables) now (λ key. answered (record { collection = collection; key = key }) now.reads (λ v reads. run rest (assigned slot v (record now { reads = reads })))) (λ key gives.
-      let allowed = subst (λ (n : ℕ). MayRead sheet collection.0 n) (sym (as_many components now.variables key gives)) is.0 in
-      with_answer (record { collection = collection; key = key }) now.reads (λ v reads. run rest (assigned slot v (record now { reads = reads }))) allowed
-      (λ v reads. blocks rest is.1 (assigned slot v (record now { reads = reads })) still)))
-      state puts
-  blocks (PutItem collection components value rest) is state puts =
-      counted (λ now. given (values_of components now.variables) now (λ key. given (value_of value now.variables) now (λ v. putting (put.Item (record { collection = collection; key = key }) v) now (run rest))))
-      (λ now still. with_result (values_of components now.variables) now (λ key. given (value_of value now.variables) now (λ v. putting (put.Item (record { collection = collection; key = key }) v) now (run rest))) (λ key gives.
-      with_result (value_of value now.variables) now (λ v. putting (put.Item (record { collection = collection; key = key }) v) now (run rest)) (λ v same.
-      let allowed = subst (λ (n : ℕ). MayPutItem sheet collection.0 n) (sym (as_many components now.variables key gives)) is.0 in
-      put_one (put.Item (record { collection = collection; key = key }) v) (run rest) allowed (blocks rest is.1) now still)))
-      state puts
-  blocks (PutTag collection components rest) is state puts =
-      counted (λ now. given (values_of components now.variables) now (λ key. putting (put.Tag (record { collection = collection; key = key })) now (run rest)))
-      (λ now still. with_result (values_of components now.variables) now (λ key. putting (put.Tag (record { collection = collection; key = key })) now (run rest)) (λ key gives.
-      let allowed = subst (λ (n : ℕ). MayPutTag sheet collection.0 n) (sym (as_many components now.variables key gives)) is.0 in
-      put_one (put.Tag (record { collection = collection; key = key })) (run rest) allowed (blocks rest is.1) now still))
       state puts
 
   -- an ending has used all of its reads

@@ -6,16 +6,18 @@ use Rattle.std.specs.Int.{int_gap}
 use Rattle.std.specs.Ordering.{int_eq}
 use Rattle.terms.specs.declared.name.Addr.{Addr}
 use Rattle.terms.specs.declared.put.Put.{Put}
-use Rattle.terms.specs.declared.put.Put.TheVariants as put
 use Rattle.terms.specs.declared.put.TheConstants.{MOST_PUTS}
 use Rattle.terms.specs.declared.fault.FaultKind.{FaultKind}
 use Rattle.terms.specs.declared.fault.FaultKind.TheVariants.{Budget, TooManyPuts}
 use Rattle.terms.specs.Same.{is_same}
-use Rattle.steptree.specs.Tree.{Block, End, Assign, If, For, Get, PutItem, PutTag}
+use Rattle.steptree.specs.Tree.{End, Do, If, For}
+use Rattle.steptree.specs.Simple.{Block, action_of}
+use Rattle.steptree.specs.declared.simple.Action.{Action}
+use Rattle.steptree.specs.declared.simple.Action.TheVariants.{Assigns, Gets, Puts}
 use Rattle.steptree.specs.declared.body.Body.{Body}
 use Rattle.steptree.specs.declared.body.TheConstants.{BUDGET}
-use Rattle.steptree.specs.Values.{value_of, values_of}
-use Rattle.steptree.specs.Run.{Read, State, Outcome, ends, faults, asks, strays, followed, counting, given, assigned, answered, putting, turns, run}
+use Rattle.steptree.specs.Values.{value_of}
+use Rattle.steptree.specs.Run.{Read, State, Outcome, ends, faults, asks, strays, followed, counting, given, assigned, answered, putting, acting, turns, run}
 use Rattle.steptree.specs.Bodies.{Ending, Gives, Faults, used_up, ending_of, begun, outcome_of, Along}
 
 -- `reads` is at most the statements counted and the reads left together, and the count is within the budget
@@ -83,13 +85,20 @@ module _ (all : ℕ) where
       (λ now more. behind (block (assigned slot from now)) (turns block slot (from +ℤ pos 1) turns_left) (stays (assigned slot from now) (weaker now more)) (all_turns block stays slot turns_left (from +ℤ pos 1)))
       state covers
 
+  -- what a simple statement does uses one read at most
+  acts : (action : Action) (next : State → Outcome) → StaysCovered next → (now : State) → Covers (suc all) now → Covered (acting action now next)
+  acts (Assigns slot value) next stays now more = stays (assigned slot value now) (weaker now more)
+  acts (Gets slot address) next stays now more =
+      with_answer address now now.reads (λ value reads. next (assigned slot value (record now { reads = reads }))) more (λ value reads covers. stays (assigned slot value (record now { reads = reads })) covers)
+  acts (Puts one) next stays now more = put_one one next stays now (weaker now more)
+
   -- ---- blocks and bodies
 
   blocks : (block : Block) → StaysCovered (run block)
   blocks End state covers = covers
-  blocks (Assign slot e rest) state covers =
-      counted (λ now. given (value_of e now.variables) now (λ v. run rest (assigned slot v now)))
-      (λ now more. with_result (value_of e now.variables) now (λ v. run rest (assigned slot v now)) (weaker now more) (λ v. blocks rest (assigned slot v now) (weaker now more)))
+  blocks (Do statement rest) state covers =
+      counted (λ now. given (action_of statement now.variables) now (λ action. acting action now (run rest)))
+      (λ now more. with_result (action_of statement now.variables) now (λ action. acting action now (run rest)) (weaker now more) (λ action. acts action (run rest) (blocks rest) now more))
       state covers
   blocks (If condition first second rest) state covers =
       counted (λ now. given (value_of condition now.variables) now (λ v. followed (if int_eq v (pos 0) then run second now else run first now) (run rest)))
@@ -102,23 +111,6 @@ module _ (all : ℕ) where
       (λ now more. with_result (value_of from now.variables) now (λ a. given (value_of to now.variables) now (λ b. followed (turns (run block) slot a (int_gap a b) now) (run rest))) (weaker now more) (λ a.
       with_result (value_of to now.variables) now (λ b. followed (turns (run block) slot a (int_gap a b) now) (run rest)) (weaker now more) (λ b.
       behind (turns (run block) slot a (int_gap a b) now) (run rest) (all_turns (run block) (blocks block) slot (int_gap a b) a now (weaker now more)) (blocks rest))))
-      state covers
-  blocks (Get slot collection components rest) state covers =
-      counted (λ now. given (values_of components now.variables) now (λ key. answered (record { collection = collection; key = key }) now.reads (λ v reads. run rest (assigned slot v (record now { reads = reads })))))
-      (λ now more. with_result (values_of components now.variables) now (λ key. answered (record { collection = collection; key = key }) now.reads (λ v reads. run rest (assigned slot v (record now { reads = reads })))) (weaker now more) (λ key.
-      with_answer (record { collection = collection; key = key }) now now.reads (λ v reads. run rest (assigned slot v (record now { reads = reads }))) more
-      (λ v reads covers. blocks rest (assigned slot v (record now { reads = reads })) covers)))
-      state covers
-  blocks (PutItem collection components e rest) state covers =
-      counted (λ now. given (values_of components now.variables) now (λ key. given (value_of e now.variables) now (λ v. putting (put.Item (record { collection = collection; key = key }) v) now (run rest))))
-      (λ now more. with_result (values_of components now.variables) now (λ key. given (value_of e now.variables) now (λ v. putting (put.Item (record { collection = collection; key = key }) v) now (run rest))) (weaker now more) (λ key.
-      with_result (value_of e now.variables) now (λ v. putting (put.Item (record { collection = collection; key = key }) v) now (run rest)) (weaker now more) (λ v.
-      put_one (put.Item (record { collection = collection; key = key }) v) (run rest) (blocks rest) now (weaker now more))))
-      state covers
-  blocks (PutTag collection components rest) state covers =
-      counted (λ now. given (values_of components now.variables) now (λ key. putting (put.Tag (record { collection = collection; key = key })) now (run rest)))
-      (λ now more. with_result (values_of components now.variables) now (λ key. putting (put.Tag (record { collection = collection; key = key })) now (run rest)) (weaker now more) (λ key.
-      put_one (put.Tag (record { collection = collection; key = key })) (run rest) (blocks rest) now (weaker now more)))
       state covers
 
   used : (rest : List Read) (end ending : Ending) → used_up rest end ≡ Some ending → all ≤ BUDGET + length rest → all ≤ BUDGET

@@ -1,7 +1,8 @@
 -- The statements of a block, resolved one after another.
 use Rattle.std.proofs.Common.{◌≡◌, ◌<◌, ℕ, ◌+◌, List, [], ◌∷◌, ◌++◌, length, drop, get_or, sym, ap, subst, ◌∙◌, arith, append_assoc}
 use Rattle.steptree.specs.declared.checker.CheckFault.{CheckFault}
-use Rattle.steptree.specs.Tree.{Block, NamedBlock, End}
+use Rattle.steptree.specs.Tree.{End}
+use Rattle.steptree.specs.Simple.{Block, NamedBlock}
 use Rattle.steptree.specs.SeenBlocks.{NumberedStatement, NamedStatement, stated, joined}
 use Rattle.steptree.specs.Nameable.{Nameable}
 use Rattle.steptree.specs.CheckFaults.{block_faults}

@@ -5,16 +5,18 @@ use Rattle.std.specs.Int.{int_gap}
 use Rattle.std.specs.Ordering.{int_eq}
 use Rattle.terms.specs.declared.name.Addr.{Addr}
 use Rattle.terms.specs.declared.put.Put.{Put}
-use Rattle.terms.specs.declared.put.Put.TheVariants as put
 use Rattle.terms.specs.declared.fault.FaultKind.{FaultKind}
 use Rattle.terms.specs.declared.fault.FaultKind.TheVariants.{Budget, TooManyPuts}
-use Rattle.steptree.specs.Tree.{Block, End, Assign, If, For, Get, PutItem, PutTag}
+use Rattle.steptree.specs.Tree.{End, Do, If, For}
+use Rattle.steptree.specs.Simple.{Block, action_of}
+use Rattle.steptree.specs.declared.simple.Action.{Action}
+use Rattle.steptree.specs.declared.simple.Action.TheVariants.{Assigns, Gets, Puts}
 use Rattle.steptree.specs.declared.body.Body.{Body}
 use Rattle.steptree.specs.declared.body.TheConstants.{BUDGET}
 use Rattle.terms.specs.declared.put.TheConstants.{MOST_PUTS}
 use Rattle.terms.specs.Same.{is_same}
-use Rattle.steptree.specs.Values.{value_of, values_of}
-use Rattle.steptree.specs.Run.{Read, State, Outcome, ends, faults, strays, followed, given, assigned, answered, putting, turns, run}
+use Rattle.steptree.specs.Values.{value_of}
+use Rattle.steptree.specs.Run.{Read, State, Outcome, ends, faults, strays, followed, given, assigned, answered, putting, acting, turns, run}
 use Rattle.steptree.specs.Bodies.{begun, outcome_of}
 
 -- it ends, is at fault, or asks for an item and goes on with its value
@@ -94,6 +96,12 @@ behind : {first : List Read → Outcome} (next : State → Outcome) → IsTree f
 behind next first trees =
     (grown first.0 (λ state. (trees state).0), λ reads. ap (λ (o : Outcome). followed o next) (first.1 reads) ∙ led_on first.0 next trees reads)
 
+-- what a simple statement does, and what comes after it
+acts : (action : Action) (next : State → Outcome) → AreTrees next → AreTrees (λ state. acting action state next)
+acts (Assigns slot value) next trees state = trees (assigned slot value state)
+acts (Gets slot address) next trees state = with_answer address (λ value. trees (assigned slot value state))
+acts (Puts one) next trees state = put_one one next trees state
+
 -- ---- blocks and bodies
 
 all_turns : (block : State → Outcome) → AreTrees block → (slot left : ℕ) (value : ℤ) → AreTrees (turns block slot value left)
@@ -103,18 +111,12 @@ all_turns block trees slot (suc left) value state =
 
 pub blocks : (block : Block) → AreTrees (run block)
 blocks End state = ended state
-blocks (Assign slot value rest) state =
-    counted state (λ now. with_result (value_of value now.variables) now (λ v. blocks rest (assigned slot v now)))
+blocks (Do statement rest) state =
+    counted state (λ now. with_result (action_of statement now.variables) now (λ action. acts action (run rest) (blocks rest) now))
 blocks (If condition first second rest) state =
     counted state (λ now. with_result (value_of condition now.variables) now (λ v. behind (run rest) (either (int_eq v (pos 0)) (blocks second now) (blocks first now)) (blocks rest)))
 blocks (For slot from to block rest) state =
     counted state (λ now. with_result (value_of from now.variables) now (λ a. with_result (value_of to now.variables) now (λ b. behind (run rest) (all_turns (run block) (blocks block) slot (int_gap a b) a now) (blocks rest))))
-blocks (Get slot collection components rest) state =
-    counted state (λ now. with_result (values_of components now.variables) now (λ key. with_answer (record { collection = collection; key = key }) (λ v. blocks rest (assigned slot v now))))
-blocks (PutItem collection components value rest) state =
-    counted state (λ now. with_result (values_of components now.variables) now (λ key. with_result (value_of value now.variables) now (λ v. put_one (put.Item (record { collection = collection; key = key }) v) (run rest) (blocks rest) now)))
-blocks (PutTag collection components rest) state =
-    counted state (λ now. with_result (values_of components now.variables) now (λ key. put_one (put.Tag (record { collection = collection; key = key })) (run rest) (blocks rest) now))
 
 pub bodies : (body : Body) (key : List ℤ) → IsTree (outcome_of body key)
 bodies body key = behind (run body.write) (blocks body.read (begun key [])) (blocks body.write)

@@ -6,18 +6,20 @@ use Rattle.std.specs.Int.{int_gap}
 use Rattle.std.specs.Ordering.{int_eq}
 use Rattle.terms.specs.declared.name.Addr.{Addr}
 use Rattle.terms.specs.declared.put.Put.{Put}
-use Rattle.terms.specs.declared.put.Put.TheVariants as put
 use Rattle.terms.specs.declared.put.TheConstants.{MOST_PUTS}
 use Rattle.terms.specs.declared.fault.FaultKind.{FaultKind}
 use Rattle.terms.specs.declared.fault.FaultKind.TheVariants.{Overflow, DivisionByZero, Budget, DoublePut, TooManyPuts}
 use Rattle.terms.specs.Same.{is_same}
 use Rattle.steptree.specs.declared.expression.Operator.{Operator}
 use Rattle.steptree.specs.declared.expression.Operator.TheVariants as operator
-use Rattle.steptree.specs.Tree.{Expression, Number, Variable, Negation, Operation, Block, End, Assign, If, For, Get, PutItem, PutTag}
+use Rattle.steptree.specs.Tree.{Expression, Number, Variable, Negation, Operation, End, Do, If, For}
+use Rattle.steptree.specs.Simple.{NumberedSimple, Block, action_of}
+use Rattle.steptree.specs.declared.simple.Action.{Action}
+use Rattle.steptree.specs.declared.simple.Action.TheVariants.{Assigns, Gets, Puts}
 use Rattle.steptree.specs.declared.body.Body.{Body}
 use Rattle.steptree.specs.declared.body.TheConstants.{BUDGET}
 use Rattle.steptree.specs.Values.{is_held, held, operated, with_value, value_of, values_of}
-use Rattle.steptree.specs.Run.{Read, State, Outcome, ends, faults, asks, strays, followed, counting, given, assigned, answered, putting, turns, run}
+use Rattle.steptree.specs.Run.{Read, State, Outcome, ends, faults, asks, strays, followed, counting, given, assigned, answered, putting, acting, turns, run}
 use Rattle.steptree.specs.Bodies.{Ending, Gives, Faults, Asks, used_up, ending_of, begun, outcome_of, Along}
 
 -- ---- expressions
@@ -64,6 +66,9 @@ values [] variables = tt
 values (first ∷ rest) variables =
     then_value (value_of first variables) (λ v. with_value (values_of rest variables) (λ others. Ok (v ∷ others))) (value first variables) (λ v.
     then_value (values_of rest variables) (λ others. Ok (v ∷ others)) (values rest variables) (λ others. tt))
+
+action : (statement : NumberedSimple) (variables : List ℤ) → Valued (action_of statement variables)
+action statement variables = grind (arith, then_value, value, values)
 
 -- ---- each way in which a block goes on
 
@@ -118,13 +123,19 @@ all_turns block stays slot (suc left) from state few =
     (λ now still. behind (block (assigned slot from now)) (turns block slot (from +ℤ pos 1) left) (stays (assigned slot from now) still) (all_turns block stays slot left (from +ℤ pos 1)))
     state few
 
+acts : (one : Action) (next : State → Outcome) → StaysWithin next → StaysWithin (λ state. acting one state next)
+acts (Assigns slot value) next stays state few = stays (assigned slot value state) few
+acts (Gets slot address) next stays state few =
+    with_answer address state.reads (λ value reads. next (assigned slot value (record state { reads = reads }))) (λ value reads. stays (assigned slot value (record state { reads = reads })) few)
+acts (Puts one) next stays state few = put_one one next stays state few
+
 -- ---- blocks and bodies
 
 blocks : (block : Block) → StaysWithin (run block)
 blocks End state few = few
-blocks (Assign slot e rest) state few =
-    counted (λ now. given (value_of e now.variables) now (λ v. run rest (assigned slot v now)))
-    (λ now still. with_result (value_of e now.variables) now (λ v. run rest (assigned slot v now)) (value e now.variables) (λ v. blocks rest (assigned slot v now) still))
+blocks (Do statement rest) state few =
+    counted (λ now. given (action_of statement now.variables) now (λ action. acting action now (run rest)))
+    (λ now still. with_result (action_of statement now.variables) now (λ action. acting action now (run rest)) (action statement now.variables) (λ one. acts one (run rest) (blocks rest) now still))
     state few
 blocks (If condition first second rest) state few =
     counted (λ now. given (value_of condition now.variables) now (λ v. followed (if int_eq v (pos 0) then run second now else run first now) (run rest)))
@@ -136,22 +147,6 @@ blocks (For slot from to block rest) state few =
     (λ now still. with_result (value_of from now.variables) now (λ a. given (value_of to now.variables) now (λ b. followed (turns (run block) slot a (int_gap a b) now) (run rest))) (value from now.variables) (λ a.
     with_result (value_of to now.variables) now (λ b. followed (turns (run block) slot a (int_gap a b) now) (run rest)) (value to now.variables) (λ b.
     behind (turns (run block) slot a (int_gap a b) now) (run rest) (all_turns (run block) (blocks block) slot (int_gap a b) a now still) (blocks rest))))
-    state few
-blocks (Get slot collection components rest) state few =
-    counted (λ now. given (values_of components now.variables) now (λ key. answered (record { collection = collection; key = key }) now.reads (λ v reads. run rest (assigned slot v (record now { reads = reads })))))
-    (λ now still. with_result (values_of components now.variables) now (λ key. answered (record { collection = collection; key = key }) now.reads (λ v reads. run rest (assigned slot v (record now { reads = reads })))) (values components now.variables) (λ key.
-    with_answer (record { collection = collection; key = key }) now.reads (λ v reads. run rest (assigned slot v (record now { reads = reads }))) (λ v reads. blocks rest (assigned slot v (record now { reads = reads })) still)))
-    state few
-blocks (PutItem collection components e rest) state few =
-    counted (λ now. given (values_of components now.variables) now (λ key. given (value_of e now.variables) now (λ v. putting (put.Item (record { collection = collection; key = key }) v) now (run rest))))
-    (λ now still. with_result (values_of components now.variables) now (λ key. given (value_of e now.variables) now (λ v. putting (put.Item (record { collection = collection; key = key }) v) now (run rest))) (values components now.variables) (λ key.
-    with_result (value_of e now.variables) now (λ v. putting (put.Item (record { collection = collection; key = key }) v) now (run rest)) (value e now.variables) (λ v.
-    put_one (put.Item (record { collection = collection; key = key }) v) (run rest) (blocks rest) now still)))
-    state few
-blocks (PutTag collection components rest) state few =
-    counted (λ now. given (values_of components now.variables) now (λ key. putting (put.Tag (record { collection = collection; key = key })) now (run rest)))
-    (λ now still. with_result (values_of components now.variables) now (λ key. putting (put.Tag (record { collection = collection; key = key })) now (run rest)) (values components now.variables) (λ key.
-    put_one (put.Tag (record { collection = collection; key = key })) (run rest) (blocks rest) now still))
     state few
 
 -- the same limits, for the ending of an outcome

@@ -1,11 +1,12 @@
 -- What is at fault in the body of a step, from the left.
-use Rattle.std.specs.Prelude.{ℕ, Bool, true, false, not, is_none, option_map, List, [], ◌∷◌, ◌++◌, length, Option, Some, None, get_or, slice_get, ◌==◌, if◌then◌else◌}
+use Rattle.std.specs.Prelude.{ℕ, Bool, true, false, not, is_none, option_map, List, [], ◌∷◌, ◌++◌, flat_map, length, Option, Some, None, get_or, slice_get, ◌==◌, if◌then◌else◌}
 use Rattle.steptree.specs.declared.checker.CheckError.{CheckError}
 use Rattle.steptree.specs.declared.checker.CheckError.TheVariants.{UnknownName, Arity, UndeclaredRead, UndeclaredPut, NoMemory}
 use Rattle.steptree.specs.declared.checker.CheckFault.{CheckFault}
 use Rattle.steptree.specs.Nameable.{Collection, Nameable}
 use Rattle.steptree.specs.declared.step.Name.{Name}
-use Rattle.steptree.specs.Tree.{NamedExpression, Number, Variable, Negation, Operation, NamedBlock, End, Assign, If, For, Get, PutItem, PutTag}
+use Rattle.steptree.specs.Tree.{NamedExpression, Number, Variable, Negation, Operation, End, Do, If, For}
+use Rattle.steptree.specs.Simple.{NamedSimple, NamedBlock, NamedUse, Target, Value, ItemRead, ItemPut, TagPut, uses_of}
 use Rattle.steptree.specs.declared.step.Step.{Step}
 use Rattle.steptree.specs.Names.{Text, names_of, slot_of, number_of}
 
@@ -50,19 +51,24 @@ abbrev pub key_faults : List Text → List Collection → List Bool → CheckErr
 key_faults names collections allowed error name components =
     known_faults collections allowed error name components (number_of collections name) ++ component_faults names components
 
+-- the faults of what a statement uses
+abbrev pub use_faults : List Text → Nameable → NamedUse → List CheckFault
+use_faults names sheet (Target name) = variable_faults names name
+use_faults names sheet (Value value) = expression_faults names value
+use_faults names sheet (ItemRead item components) = key_faults names sheet.items sheet.reads UndeclaredRead item components.items
+use_faults names sheet (ItemPut item components) = key_faults names sheet.items sheet.item_puts UndeclaredPut item components.items
+use_faults names sheet (TagPut tag components) = key_faults names sheet.tags sheet.tag_puts UndeclaredPut tag components.items
+
+abbrev pub simple_faults : List Text → Nameable → NamedSimple → List CheckFault
+simple_faults names sheet statement = flat_map (use_faults names sheet) (uses_of statement)
+
 abbrev pub block_faults : List Text → Nameable → NamedBlock → List CheckFault
 block_faults names sheet End = []
-block_faults names sheet (Assign name value rest) = variable_faults names name ++ expression_faults names value ++ block_faults names sheet rest
+block_faults names sheet (Do statement rest) = simple_faults names sheet statement ++ block_faults names sheet rest
 block_faults names sheet (If condition first second rest) =
     expression_faults names condition ++ block_faults names sheet first ++ block_faults names sheet second ++ block_faults names sheet rest
 block_faults names sheet (For name from to block rest) =
     variable_faults names name ++ expression_faults names from ++ expression_faults names to ++ block_faults names sheet block ++ block_faults names sheet rest
-block_faults names sheet (Get name item components rest) =
-    variable_faults names name ++ key_faults names sheet.items sheet.reads UndeclaredRead item components.items ++ block_faults names sheet rest
-block_faults names sheet (PutItem item components value rest) =
-    key_faults names sheet.items sheet.item_puts UndeclaredPut item components.items ++ expression_faults names value ++ block_faults names sheet rest
-block_faults names sheet (PutTag tag components rest) =
-    key_faults names sheet.tags sheet.tag_puts UndeclaredPut tag components.items ++ block_faults names sheet rest
 
 -- all faults: those of the read block, then those of the write block
 abbrev pub faults_of : Nameable → Step → List CheckFault

@@ -1,7 +1,6 @@
 -- What a list of instructions does, from one of its places on.
 use Rattle.std.specs.Prelude.{◌≡◌, ℕ, zero, suc, ℤ, pos, ◌+ℤ◌, int_lt, List, [], ◌∷◌, Option, Some, None, if◌then◌else◌, slice_get}
 use Rattle.std.specs.Ordering.{int_eq}
-use Rattle.terms.specs.declared.put.Put.TheVariants as put
 use Rattle.steptree.specs.Tree.{Expression, Number, Variable, Operation}
 use Rattle.steptree.specs.declared.expression.Operator.TheVariants as operator
 use Rattle.steptree.specs.declared.code.Operand.{Operand}
@@ -17,8 +16,9 @@ use Rattle.steptree.specs.declared.code.Loop.{Loop}
 use Rattle.steptree.specs.declared.code.Code.{Code}
 use Rattle.steptree.specs.declared.body.Body.{Body}
 use Rattle.steptree.specs.declared.body.TheConstants.{BUDGET}
-use Rattle.steptree.specs.Run.{Read, State, Outcome, ends, strays, counting, given, assigned, answered, putting}
-use Rattle.steptree.specs.Values.{value_of, values_of}
+use Rattle.steptree.specs.declared.simple.Simple.TheVariants.{Assign}
+use Rattle.steptree.specs.Run.{Read, State, Outcome, ends, strays, counting, given, assigned, doing}
+use Rattle.steptree.specs.Values.{value_of}
 use Rattle.steptree.specs.Bodies.{begun, outcome_of}
 
 -- the expression that an operand stands for
@@ -68,23 +68,14 @@ advanced open_loop = record open_loop { next = open_loop.next +ℤ pos 1 }
 -- what an instruction does after it was counted; `onward` says what comes of the place where it goes on
 abbrev pub carried_out : Onward → List Loop → Instruction → State → Outcome
 carried_out onward loops instruction.End now = ends now
-carried_out onward loops (instruction.Assign variable value next) now =
-    given (value_of (expression_of value) now.variables) now (λ v. onward loops next (assigned variable v now))
+carried_out onward loops (instruction.Assign variable value next) now = doing (Assign variable (expression_of value)) now (onward loops next)
 carried_out onward loops (instruction.Branch condition first second) now =
     given (value_of (expression_of condition) now.variables) now (λ v. onward loops (if int_eq v (pos 0) then second else first) now)
 carried_out onward loops (instruction.For variable from to turn begin after) now =
     given (value_of from now.variables) now (λ a. given (value_of to now.variables) now (λ b.
     onward (record { variable = variable; next = a; to = b; begin = begin; after = after } ∷ loops) turn now))
 carried_out onward loops instruction.Turn now = ends now
-carried_out onward loops (instruction.Get variable collection components next) now =
-    given (values_of components now.variables) now (λ key.
-    answered (record { collection = collection; key = key }) now.reads (λ v reads. onward loops next (assigned variable v (record now { reads = reads }))))
-carried_out onward loops (instruction.PutItem collection components value next) now =
-    given (values_of components now.variables) now (λ key. given (value_of value now.variables) now (λ v.
-    putting (put.Item (record { collection = collection; key = key }) v) now (onward loops next)))
-carried_out onward loops (instruction.PutTag collection components next) now =
-    given (values_of components now.variables) now (λ key.
-    putting (put.Tag (record { collection = collection; key = key })) now (onward loops next))
+carried_out onward loops (instruction.Do statement next) now = doing statement now (onward loops next)
 
 -- the next turn of the innermost loop is counted, and its variable gets its value; if no turn is left, it is `left`
 abbrev pub turned : Onward → List Loop → State → Outcome → Outcome
@@ -102,9 +93,7 @@ performed onward loops (Some instruction.Turn) state left = turned onward loops 
 performed onward loops (Some (instruction.Assign variable value next)) state left = counting state (carried_out onward loops (instruction.Assign variable value next))
 performed onward loops (Some (instruction.Branch condition first second)) state left = counting state (carried_out onward loops (instruction.Branch condition first second))
 performed onward loops (Some (instruction.For variable from to turn begin after)) state left = counting state (carried_out onward loops (instruction.For variable from to turn begin after))
-performed onward loops (Some (instruction.Get variable collection components next)) state left = counting state (carried_out onward loops (instruction.Get variable collection components next))
-performed onward loops (Some (instruction.PutItem collection components value next)) state left = counting state (carried_out onward loops (instruction.PutItem collection components value next))
-performed onward loops (Some (instruction.PutTag collection components next)) state left = counting state (carried_out onward loops (instruction.PutTag collection components next))
+performed onward loops (Some (instruction.Do statement next)) state left = counting state (carried_out onward loops (instruction.Do statement next))
 
 -- the instructions from a place on, up to and with the next one that is counted
 abbrev pub stepped : Onward → List Instruction → Onward

@@ -14,6 +14,7 @@ pub mod Run
 pub mod SeenBlocks
 pub mod SeenExpressions
 pub mod Sheet
+pub mod Simple
 pub mod Statements
 pub mod Tree
 pub mod Values

@@ -4,7 +4,9 @@ use Rattle.steptree.specs.declared.checked.Checked.{Checked}
 use Rattle.steptree.specs.Nameable.{Collection, Nameable}
 use Rattle.steptree.specs.declared.step.Name.{Name}
 use Rattle.steptree.specs.declared.step.Step.{Step}
-use Rattle.steptree.specs.Tree.{Expression, NamedExpression, Number, Variable, Negation, Operation, Block, NamedBlock, End, Assign, If, For, Get, PutItem, PutTag}
+use Rattle.steptree.specs.declared.simple.Simple.TheVariants.{Assign, Get, PutItem, PutTag}
+use Rattle.steptree.specs.Tree.{Expression, NamedExpression, Number, Variable, Negation, Operation, End, Do, If, For}
+use Rattle.steptree.specs.Simple.{NumberedSimple, NamedSimple, Block, NamedBlock}
 use Rattle.steptree.specs.Names.{Text, names_of, slot_of, number_of}
 
 abbrev pub IsExpression : List Text → NamedExpression → Expression → Type 0
@@ -27,19 +29,20 @@ IsKey names collections name parts number components = (number_of collections na
 abbrev pub ResolvesKey : List Text → List Collection → Name → List NamedExpression → ℕ × List Expression → Type 0
 ResolvesKey names collections name parts resolved = IsKey names collections name parts resolved.0 resolved.1
 
+abbrev pub IsSimple : List Text → Nameable → NamedSimple → NumberedSimple → Type 0
+IsSimple names sheet (Assign name e) (Assign slot f) = (slot_of names name ≡ Some slot) × IsExpression names e f
+IsSimple names sheet (Get name item parts) (Get slot collection components) = (slot_of names name ≡ Some slot) × IsKey names sheet.items item parts.items collection.0 components
+IsSimple names sheet (PutItem item parts e) (PutItem collection components f) = IsKey names sheet.items item parts.items collection.0 components × IsExpression names e f
+IsSimple names sheet (PutTag tag parts) (PutTag collection components) = IsKey names sheet.tags tag parts.items collection.0 components
+IsSimple names sheet statement other = ⊥
+
 abbrev pub IsBlock : List Text → Nameable → NamedBlock → Block → Type 0
 IsBlock names sheet End End = ⊤
-IsBlock names sheet (Assign name e block) (Assign slot f rest) = (slot_of names name ≡ Some slot) × IsExpression names e f × IsBlock names sheet block rest
+IsBlock names sheet (Do named block) (Do statement rest) = IsSimple names sheet named statement × IsBlock names sheet block rest
 IsBlock names sheet (If e a b block) (If f first second rest) =
     IsExpression names e f × IsBlock names sheet a first × IsBlock names sheet b second × IsBlock names sheet block rest
 IsBlock names sheet (For name e1 e2 a block) (For slot f1 f2 inner rest) =
     (slot_of names name ≡ Some slot) × IsExpression names e1 f1 × IsExpression names e2 f2 × IsBlock names sheet a inner × IsBlock names sheet block rest
-IsBlock names sheet (Get name item parts block) (Get slot collection components rest) =
-    (slot_of names name ≡ Some slot) × IsKey names sheet.items item parts.items collection.0 components × IsBlock names sheet block rest
-IsBlock names sheet (PutItem item parts e block) (PutItem collection components f rest) =
-    IsKey names sheet.items item parts.items collection.0 components × IsExpression names e f × IsBlock names sheet block rest
-IsBlock names sheet (PutTag tag parts block) (PutTag collection components rest) =
-    IsKey names sheet.tags tag parts.items collection.0 components × IsBlock names sheet block rest
 IsBlock names sheet block other = ⊥
 
 -- a checked step is the step with each name replaced by what it stands for

@@ -4,14 +4,16 @@ use Rattle.std.specs.Int.{int_gap}
 use Rattle.std.specs.Ordering.{int_eq}
 use Rattle.terms.specs.declared.name.Addr.{Addr}
 use Rattle.terms.specs.declared.put.Put.{Put}
-use Rattle.terms.specs.declared.put.Put.TheVariants as put
 use Rattle.terms.specs.declared.fault.FaultKind.{FaultKind}
 use Rattle.terms.specs.declared.fault.FaultKind.TheVariants.{Budget, TooManyPuts}
 use Rattle.terms.specs.Same.{is_same}
-use Rattle.steptree.specs.Tree.{Block, End, Assign, If, For, Get, PutItem, PutTag}
+use Rattle.steptree.specs.declared.simple.Action.{Action}
+use Rattle.steptree.specs.declared.simple.Action.TheVariants.{Assigns, Gets, Puts}
+use Rattle.steptree.specs.Tree.{End, Do, If, For}
+use Rattle.steptree.specs.Simple.{NumberedSimple, Block, action_of}
 use Rattle.steptree.specs.declared.body.TheConstants.{BUDGET}
 use Rattle.terms.specs.declared.put.TheConstants.{MOST_PUTS}
-use Rattle.steptree.specs.Values.{value_of, values_of}
+use Rattle.steptree.specs.Values.{value_of}
 
 -- an item that a step read: its address and its value
 abbrev pub Read : Type 0
@@ -67,21 +69,21 @@ turns block slot value zero state = ends state
 turns block slot value (suc left) state =
     counting state (λ now. followed (block (assigned slot value now)) (turns block slot (value +ℤ pos 1) left))
 
+-- does what a simple statement comes to, and goes on
+abbrev pub acting : Action → State → (State → Outcome) → Outcome
+acting (Assigns slot value) now next = next (assigned slot value now)
+acting (Gets slot address) now next = answered address now.reads (λ value reads. next (assigned slot value (record now { reads = reads })))
+acting (Puts one) now next = putting one now next
+
+-- a simple statement, after it was counted
+abbrev pub doing : NumberedSimple → State → (State → Outcome) → Outcome
+doing statement now next = given (action_of statement now.variables) now (λ action. acting action now next)
+
 abbrev pub run : Block → State → Outcome
 run End state = ends state
-run (Assign slot value rest) state =
-    counting state (λ now. given (value_of value now.variables) now (λ v. run rest (assigned slot v now)))
+run (Do statement rest) state = counting state (λ now. doing statement now (run rest))
 run (If condition first second rest) state =
     counting state (λ now. given (value_of condition now.variables) now (λ v. followed (if int_eq v (pos 0) then run second now else run first now) (run rest)))
 run (For slot from to block rest) state =
     counting state (λ now. given (value_of from now.variables) now (λ a. given (value_of to now.variables) now (λ b.
     followed (turns (run block) slot a (int_gap a b) now) (run rest))))
-run (Get slot collection components rest) state =
-    counting state (λ now. given (values_of components now.variables) now (λ key.
-    answered (record { collection = collection; key = key }) now.reads (λ v reads. run rest (assigned slot v (record now { reads = reads })))))
-run (PutItem collection components value rest) state =
-    counting state (λ now. given (values_of components now.variables) now (λ key. given (value_of value now.variables) now (λ v.
-    putting (put.Item (record { collection = collection; key = key }) v) now (run rest))))
-run (PutTag collection components rest) state =
-    counting state (λ now. given (values_of components now.variables) now (λ key.
-    putting (put.Tag (record { collection = collection; key = key })) now (run rest)))

@@ -5,7 +5,8 @@ use Rattle.terms.specs.declared.name.Addr.{Addr}
 use Rattle.terms.specs.declared.put.Put.{Put}
 use Rattle.terms.specs.declared.put.Put.TheVariants as put
 use Rattle.steptree.specs.Nameable.{Collection, Nameable}
-use Rattle.steptree.specs.Tree.{Block, End, Assign, If, For, Get, PutItem, PutTag}
+use Rattle.steptree.specs.Tree.{End, Do, If, For}
+use Rattle.steptree.specs.Simple.{NumberedSimple, Block, NumberedUse, Target, Value, ItemRead, ItemPut, TagPut, uses_of}
 use Rattle.steptree.specs.declared.body.Body.{Body}
 use Rattle.steptree.specs.Run.{Read}
 use Rattle.steptree.specs.Bodies.{Ending, Gives, Faults, Asks, Along}
@@ -24,15 +25,24 @@ MayPutItem sheet number components = IsAllowed sheet.items sheet.item_puts numbe
 abbrev pub MayPutTag : Nameable → ℕ → ℕ → Type 0
 MayPutTag sheet number components = IsAllowed sheet.tags sheet.tag_puts number components
 
+-- the sheet allows this use
+abbrev pub Allows : Nameable → NumberedUse → Type 0
+Allows sheet (Target variable) = ⊤
+Allows sheet (Value value) = ⊤
+Allows sheet (ItemRead collection components) = MayRead sheet collection.0 (length components)
+Allows sheet (ItemPut collection components) = MayPutItem sheet collection.0 (length components)
+Allows sheet (TagPut collection components) = MayPutTag sheet collection.0 (length components)
+
+-- all that the statement uses
+abbrev pub AllowsAll : Nameable → NumberedSimple → Type 0
+AllowsAll sheet statement = AllByRecursion (Allows sheet) (uses_of statement)
+
 -- the block gets and puts only what the sheet allows
 abbrev pub KeepsTo : Nameable → Block → Type 0
 KeepsTo sheet End = ⊤
-KeepsTo sheet (Assign variable value rest) = KeepsTo sheet rest
+KeepsTo sheet (Do statement rest) = AllowsAll sheet statement × KeepsTo sheet rest
 KeepsTo sheet (If condition first second rest) = KeepsTo sheet first × KeepsTo sheet second × KeepsTo sheet rest
 KeepsTo sheet (For variable from to block rest) = KeepsTo sheet block × KeepsTo sheet rest
-KeepsTo sheet (Get variable collection components rest) = MayRead sheet collection.0 (length components) × KeepsTo sheet rest
-KeepsTo sheet (PutItem collection components value rest) = MayPutItem sheet collection.0 (length components) × KeepsTo sheet rest
-KeepsTo sheet (PutTag collection components rest) = MayPutTag sheet collection.0 (length components) × KeepsTo sheet rest
 
 abbrev pub BodyKeepsTo : Nameable → Body → Type 0
 BodyKeepsTo sheet body = KeepsTo sheet body.read × KeepsTo sheet body.write

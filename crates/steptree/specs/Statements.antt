@@ -1,16 +1,16 @@
 -- The statements of a block one by one.
 use Rattle.std.specs.Prelude.{◌≡◌, ◌⊎◌, ◌++◌, Bool, List, [], map, Some, Result, MatchResult, slice_get}
-use Rattle.steptree.specs.Tree.{Block, NamedBlock, NamedExpression, Assign}
+use Rattle.steptree.specs.Tree.{NamedExpression}
+use Rattle.steptree.specs.Simple.{NumberedSimple, NamedSimple, Block, NamedBlock}
 use Rattle.steptree.specs.SeenBlocks.{NumberedStatement, stated}
 use Rattle.steptree.specs.declared.checker.CheckError.{CheckError}
-use Rattle.steptree.specs.declared.checker.CheckError.TheVariants.{UndeclaredRead, UndeclaredPut}
 use Rattle.steptree.specs.declared.checker.CheckFault.{CheckFault}
 use Rattle.steptree.specs.Nameable.{Collection, Nameable}
 use Rattle.steptree.specs.declared.step.Name.{Name}
-use Rattle.steptree.specs.CheckFaults.{block_faults, expression_faults, key_faults, known_faults, no_memory, variable_faults}
+use Rattle.steptree.specs.CheckFaults.{block_faults, expression_faults, key_faults, known_faults, no_memory, simple_faults, variable_faults}
 use Rattle.steptree.specs.Names.{Text, number_of}
-use Rattle.steptree.specs.Resolved.{IsBlock}
-use Rattle.steptree.specs.Sheet.{KeepsTo}
+use Rattle.steptree.specs.Resolved.{IsSimple, IsBlock}
+use Rattle.steptree.specs.Sheet.{AllowsAll, KeepsTo}
 
 abbrev pub texts : List Name → List Text
 texts names = map (λ name. name.text.now) names
@@ -39,27 +39,16 @@ ReportsUse collections allowed error name components = Reports (known_faults col
 abbrev pub ReportsKey : {X : Type 0} → List Text → List Collection → List Bool → CheckError → Name → List NamedExpression → Result X CheckFault → Type 0
 ReportsKey names collections allowed error name components = Reports (key_faults names collections allowed error name components)
 
--- the same of the faults of an assignment: of its variable, and then of its value
-abbrev pub ReportsAssignment : {X : Type 0} → List Text → Name → NamedExpression → Result X CheckFault → Type 0
-ReportsAssignment names variable value = Reports (variable_faults names variable ++ expression_faults names value)
-
--- the same of the faults of a read of an item: of its variable, and then of the item's key
-abbrev pub ReportsGet : {X : Type 0} → List Text → Nameable → Name → Name → List NamedExpression → Result X CheckFault → Type 0
-ReportsGet names sheet variable item components = Reports (variable_faults names variable ++ key_faults names sheet.items sheet.reads UndeclaredRead item components)
-
--- the same of the faults of a put of an item: of the item's key, and then of its value
-abbrev pub ReportsItemPut : {X : Type 0} → List Text → Nameable → Name → List NamedExpression → NamedExpression → Result X CheckFault → Type 0
-ReportsItemPut names sheet item components value = Reports (key_faults names sheet.items sheet.item_puts UndeclaredPut item components ++ expression_faults names value)
-
--- the same of the faults of a put of a tag: of the tag's key
-abbrev pub ReportsTagPut : {X : Type 0} → List Text → Nameable → Name → List NamedExpression → Result X CheckFault → Type 0
-ReportsTagPut names sheet tag components = Reports (key_faults names sheet.tags sheet.tag_puts UndeclaredPut tag components)
-
 -- the statement is the one with names, whatever follows the two, and the sheet allows it
 pub record IsStatement (names : List Text) (sheet : Nameable) (named : NamedBlock → NamedBlock) (statement : NumberedStatement) : Type 0 where
   pub resolves : (block : NamedBlock) (rest : Block) → IsBlock names sheet block rest → IsBlock names sheet (named block) (stated statement rest)
   pub keeps : (rest : Block) → KeepsTo sheet rest → KeepsTo sheet (stated statement rest)
 
--- the statement is this assignment, and any sheet allows it
-abbrev pub IsAssignment : List Text → Name → NamedExpression → NumberedStatement → Type 0
-IsAssignment names variable value statement = (sheet : Nameable) → IsStatement names sheet (Assign variable value) statement
+-- the same of a simple statement
+pub record IsAllowedSimple (names : List Text) (sheet : Nameable) (named : NamedSimple) (statement : NumberedSimple) : Type 0 where
+  pub resolves : IsSimple names sheet named statement
+  pub keeps : AllowsAll sheet statement
+
+-- the same of the faults of a simple statement
+abbrev pub ReportsSimple : {X : Type 0} → List Text → Nameable → NamedSimple → Result X CheckFault → Type 0
+ReportsSimple names sheet statement = Reports (simple_faults names sheet statement)

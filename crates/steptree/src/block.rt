@@ -1,68 +1,47 @@
 ghost use Rattle.std.specs.Prelude.{◌≡◌};
 ghost use Rattle.steptree.specs.Tree.{End};
 
-use crate::{Components, Expression, Slot};
+use crate::{Expression, Simple, Slot};
 use std::alloc::Global;
 use std::marker::Model;
-use terms::{ItemCollection, TagCollection};
 
 /// The statements of a block, one after another. Clauses see it as its tree.
 ///
-/// A variable is a `V`, a collection of items an `I`, a collection of tags a `T`, and the components of a key are a `C`.
+/// A variable is a `V`, and a statement without blocks an `S`.
 #[cycle(block)]
 #[derive(Drop)]
-pub struct Block<V = Slot, I = ItemCollection, T = TagCollection, C = Components> {
-    pub statements: Vec<Statement<V, I, T, C>>,
+pub struct Block<V = Slot, S = Simple> {
+    pub statements: Vec<Statement<V, S>>,
 }
 
 /// A statement, with the blocks inside it.
 #[cycle(block)]
 #[derive(Drop)]
-pub enum Statement<V = Slot, I = ItemCollection, T = TagCollection, C = Components> {
-    /// Gives a variable the value of an expression.
-    Assign {
-        variable: V,
-        value: Expression<V>,
-    },
+pub enum Statement<V = Slot, S = Simple> {
+    /// Does what has no blocks inside it.
+    Simple(S),
     /// Runs the first block if the condition is not 0, else the second.
     If {
         condition: Expression<V>,
-        first: Block<V, I, T, C>,
-        second: Block<V, I, T, C>,
+        first: Block<V, S>,
+        second: Block<V, S>,
     },
     /// Runs the block once for each value of the variable, from `from` up to but not including `to`.
     For {
         variable: V,
         from: Expression<V>,
         to: Expression<V>,
-        block: Block<V, I, T, C>,
-    },
-    /// Gives a variable the value of an item.
-    Get {
-        variable: V,
-        collection: I,
-        components: C,
-    },
-    /// Puts an item.
-    PutItem {
-        collection: I,
-        components: C,
-        value: Expression<V>,
-    },
-    /// Puts a tag.
-    PutTag {
-        collection: T,
-        components: C,
+        block: Block<V, S>,
     },
 }
 
-impl<V, I, T, C> Model for Block<V, I, T, C> {
+impl<V, S> Model for Block<V, S> {
     ghost use Rattle.steptree.specs.Tree.{BlockTree, block_size};
     ghost use Rattle.steptree.specs.CodesOfBlocks.{block_code};
 
-    ghost Value = { BlockTree V I T C };
+    ghost Value = { BlockTree V S };
 
-    ghost coded = { block_code V.code I.code T.code C.code };
+    ghost coded = { block_code V.code S.code };
 
     ghost use Rattle.steptree.specs.SeenBlocks.{block_seen};
 
@@ -76,7 +55,7 @@ impl<V, I, T, C> Model for Block<V, I, T, C> {
     ghost size_decreases = { λ a h. omega (arith, falls a.statements.items) };
 }
 
-impl<V, I, T, C> Block<V, I, T, C> {
+impl<V, S> Block<V, S> {
     /// The block without a statement.
     pub fn end(alloc: Global) -> Self
         ensures { result ≡ End }

@@ -1,5 +1,4 @@
-use crate::{Components, Expression, Operator, Slot};
-use terms::{ItemCollection, TagCollection};
+use crate::{Expression, Operator, Simple, Slot};
 
 /// An operand that has no operands itself.
 #[derive(Clone, Copy, Debug)]
@@ -105,24 +104,9 @@ pub enum Instruction {
         begin: usize,
         after: usize,
     },
-    /// Gives a variable the value of an item.
-    Get {
-        variable: Slot,
-        collection: ItemCollection,
-        components: Components,
-        next: usize,
-    },
-    /// Puts an item.
-    PutItem {
-        collection: ItemCollection,
-        components: Components,
-        value: Expression,
-        next: usize,
-    },
-    /// Puts a tag.
-    PutTag {
-        collection: TagCollection,
-        components: Components,
+    /// Does a simple statement.
+    Do {
+        statement: Simple,
         next: usize,
     },
 }
@@ -151,21 +135,8 @@ impl Drop for Instruction {
                 after: _,
             } => {}
             Instruction::Turn => {}
-            Instruction::Get {
-                variable: _,
-                collection: _,
-                components: _,
-                next: _,
-            } => {}
-            Instruction::PutItem {
-                collection: _,
-                components: _,
-                value: _,
-                next: _,
-            } => {}
-            Instruction::PutTag {
-                collection: _,
-                components: _,
+            Instruction::Do {
+                statement: _,
                 next: _,
             } => {}
         }

@@ -1,18 +1,17 @@
 //! Makes bodies into code.
 //!
 //! Statements are compiled from the last to the first, so that each knows the place where it goes on.
-ghost use Rattle.std.specs.Prelude.{IfOk};
+ghost use Rattle.std.specs.Prelude.{◌≡◌, IfOk, Some};
 ghost use Rattle.steptree.specs.Tree as tree;
 ghost use Rattle.steptree.specs.Executed.{Performs};
-ghost use Rattle.steptree.specs.Compiled.{Compiles, CompilesItemPut, CompilesLoop, IsCode, Keeps, Stands};
+ghost use Rattle.steptree.specs.Compiled.{Compiles, CompilesLoop, IsCode, Keeps, Stands, does};
 ghost use Rattle.steptree.specs.SeenBlocks.{stated};
 
 mod formulas;
 
-use crate::{Block, Body, Code, Components, Expression, Instruction, Slot, Statement};
-use formulas::{copied, copied_components, formula};
+use crate::{Block, Body, Code, Expression, Instruction, Simple, Slot, Statement};
+use formulas::formula;
 use std::alloc::{AllocError, Global};
-use terms::{ItemCollection, TagCollection};
 
 /// The code of a body.
 pub(crate) fn compile(alloc: Global, body: &Body) -> Result<Code, AllocError>
@@ -60,7 +59,7 @@ fn compile_statement(
     ensures keeps { IfOk result (λ at. Keeps code.old.items code.new.items) }
 {
     match statement {
-        Statement::Assign { variable, value } => assign(alloc, code, *variable, value, next),
+        Statement::Simple(simple) => simply(alloc, code, simple, next),
         Statement::If {
             condition,
             first,
@@ -72,44 +71,39 @@ fn compile_statement(
             to,
             block,
         } => repeat(alloc, code, *variable, from, to, block, next),
-        Statement::Get {
-            variable,
-            collection,
-            components,
-        } => get(alloc, code, *variable, *collection, components, next),
-        Statement::PutItem {
-            collection,
-            components,
-            value,
-        } => put_item(alloc, code, *collection, components, value, next),
-        Statement::PutTag {
-            collection,
-            components,
-        } => put_tag(alloc, code, *collection, components, next),
     }
 }
 
-// Adds an assignment.
-fn assign(
+// Adds a simple statement.
+fn simply(
     alloc: Global,
     code: &mut Vec<Instruction>,
-    variable: Slot,
-    value: &Expression,
+    statement: &Simple,
     next: usize,
 ) -> Result<usize, AllocError>
-    ensures code { IfOk result (Compiles (tree.Assign variable value.now) code.old.items next code.new.items) }
+    ensures code { IfOk result (Compiles (tree.Do statement.now) code.old.items next code.new.items) }
     ensures keeps { IfOk result (λ at. Keeps code.old.items code.new.items) }
 {
-    let value = formula(alloc, value)?;
-    let at = push(
-        code,
-        Instruction::Assign {
-            variable,
-            value,
-            next,
-        },
-    )?;
+    let one = instruction(alloc, statement, next)?;
+    let at = push(code, one)?;
     Ok(at)
+}
+
+// The instruction that does a simple statement.
+fn instruction(alloc: Global, statement: &Simple, next: usize) -> Result<Instruction, AllocError>
+    ensures { IfOk result (λ one. does one ≡ Some (statement.now, next)) }
+{
+    if let Simple::Assign { variable, value } = statement {
+        return Ok(Instruction::Assign {
+            variable: *variable,
+            value: formula(alloc, value)?,
+            next,
+        });
+    }
+    Ok(Instruction::Do {
+        statement: statement.copied(alloc)?,
+        next,
+    })
 }
 
 // Adds a choice between two blocks.
@@ -155,8 +149,8 @@ fn repeat(
 {
     let turn = push(code, Instruction::Turn)?;
     let begin = compile_block(alloc, code, block, turn)?;
-    let from = copied(alloc, from)?;
-    let to = copied(alloc, to)?;
+    let from = from.copied(alloc)?;
+    let to = to.copied(alloc)?;
     let at = push(
         code,
         Instruction::For {
@@ -166,80 +160,6 @@ fn repeat(
             turn,
             begin,
             after,
-        },
-    )?;
-    Ok(at)
-}
-
-// Adds a read of an item.
-fn get(
-    alloc: Global,
-    code: &mut Vec<Instruction>,
-    variable: Slot,
-    collection: ItemCollection,
-    components: &Components,
-    next: usize,
-) -> Result<usize, AllocError>
-    ensures code { IfOk result (Compiles (tree.Get variable collection components.now) code.old.items next code.new.items) }
-    ensures keeps { IfOk result (λ at. Keeps code.old.items code.new.items) }
-{
-    let components = copied_components(alloc, components)?;
-    let at = push(
-        code,
-        Instruction::Get {
-            variable,
-            collection,
-            components,
-            next,
-        },
-    )?;
-    Ok(at)
-}
-
-// Adds a put of an item.
-fn put_item(
-    alloc: Global,
-    code: &mut Vec<Instruction>,
-    collection: ItemCollection,
-    components: &Components,
-    value: &Expression,
-    next: usize,
-) -> Result<usize, AllocError>
-    ensures code { IfOk result (CompilesItemPut collection components.now value.now code.old.items next code.new.items) }
-    ensures keeps { IfOk result (λ at. Keeps code.old.items code.new.items) }
-{
-    let components = copied_components(alloc, components)?;
-    let value = copied(alloc, value)?;
-    let at = push(
-        code,
-        Instruction::PutItem {
-            collection,
-            components,
-            value,
-            next,
-        },
-    )?;
-    Ok(at)
-}
-
-// Adds a put of a tag.
-fn put_tag(
-    alloc: Global,
-    code: &mut Vec<Instruction>,
-    collection: TagCollection,
-    components: &Components,
-    next: usize,
-) -> Result<usize, AllocError>
-    ensures code { IfOk result (Compiles (tree.PutTag collection components.now) code.old.items next code.new.items) }
-    ensures keeps { IfOk result (λ at. Keeps code.old.items code.new.items) }
-{
-    let components = copied_components(alloc, components)?;
-    let at = push(
-        code,
-        Instruction::PutTag {
-            collection,
-            components,
-            next,
         },
     )?;
     Ok(at)

@@ -1,7 +1,8 @@
-ghost use Rattle.std.specs.Prelude.{◌≡◌, ◌≤◌, length};
+ghost use Rattle.std.specs.Prelude.{◌≡◌, ◌≤◌, length, IfOk};
 ghost use Rattle.terms.specs.declared.key.TheConstants.{MAX_COMPONENTS};
 
 use crate::Expression;
+use std::alloc::{AllocError, Global};
 use std::marker::Model;
 use terms::MAX_COMPONENTS;
 
@@ -42,5 +43,18 @@ impl Components {
         ensures few { length result.now ≤ MAX_COMPONENTS }
     {
         &self.expressions
+    }
+
+    /// The same components in memory of their own.
+    pub(crate) fn copied(&self, alloc: Global) -> Result<Self, AllocError>
+        ensures { IfOk result (λ copy. copy ≡ self.now) }
+    {
+        let mut expressions = Vec::new(alloc);
+        for expression in self.as_slice() {
+            let copy = expression.copied(alloc)?;
+            expressions.reserve(1)?;
+            expressions.push_reserved(copy);
+        }
+        Ok(Components { expressions })
     }
 }

@@ -1,4 +1,7 @@
+ghost use Rattle.std.specs.Prelude.{◌≡◌, IfOk};
+
 use crate::Slot;
+use std::alloc::{AllocError, Global};
 use std::marker::Model;
 
 /// The operator between two operands.
@@ -50,6 +53,28 @@ impl<V> Model for Expression<V> {
     ghost use Rattle.std.proofs.Common.{arith};
 
     ghost size_decreases = { λ a h. Prim.grind (arith) };
+}
+
+impl Expression {
+    /// The same expression in memory of its own.
+    pub(crate) fn copied(&self, alloc: Global) -> Result<Self, AllocError>
+        ensures { IfOk result (λ copy. copy ≡ self.now) }
+    {
+        let node = match &self.node {
+            Node::Number(number) => Node::Number(*number),
+            Node::Variable(slot) => Node::Variable(*slot),
+            Node::Negation(operand) => {
+                let operand = operand.copied(alloc)?;
+                Node::Negation(Box::new(alloc, operand)?)
+            }
+            Node::Operation(operator, operands) => {
+                let left = operands.0.copied(alloc)?;
+                let right = operands.1.copied(alloc)?;
+                Node::Operation(*operator, Box::new(alloc, (left, right))?)
+            }
+        };
+        Ok(Expression { node })
+    }
 }
 
 impl<V: Drop> Drop for Expression<V> {

@@ -14,6 +14,7 @@ mod components;
 mod expression;
 mod laws;
 mod sheet;
+mod simple;
 mod slot;
 mod step;
 
@@ -28,5 +29,6 @@ pub use laws::{
     along_one_list, ends_once, ends_within_limits, growth_keeps, keeps_to_its_sheet, limits,
 };
 pub use sheet::{Declared, MOST_COLLECTIONS, Sheet};
+pub use simple::{Action, Simple};
 pub use slot::{MOST_NAMES, Slot};
-pub use step::{Name, NamedBlock, NamedExpression, NamedStatement, Step};
+pub use step::{Name, NamedBlock, NamedExpression, NamedSimple, NamedStatement, Step};

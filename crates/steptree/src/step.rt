@@ -1,4 +1,4 @@
-use crate::{Block, Expression, Statement};
+use crate::{Block, Expression, Simple, Statement};
 
 /// A name in a text, and the position of its first byte there.
 #[derive(Clone, Copy, Debug)]
@@ -10,11 +10,14 @@ pub struct Name<'a> {
 /// An expression with names.
 pub type NamedExpression<'a> = Expression<Name<'a>>;
 
+/// A statement with names and without blocks inside it.
+pub type NamedSimple<'a> = Simple<Name<'a>, Name<'a>, Name<'a>, Vec<NamedExpression<'a>>>;
+
 /// The statements of a block with names.
-pub type NamedBlock<'a> = Block<Name<'a>, Name<'a>, Name<'a>, Vec<NamedExpression<'a>>>;
+pub type NamedBlock<'a> = Block<Name<'a>, NamedSimple<'a>>;
 
 /// A statement with names.
-pub type NamedStatement<'a> = Statement<Name<'a>, Name<'a>, Name<'a>, Vec<NamedExpression<'a>>>;
+pub type NamedStatement<'a> = Statement<Name<'a>, NamedSimple<'a>>;
 
 /// A step as it is written in its text.
 pub struct Step<'a> {

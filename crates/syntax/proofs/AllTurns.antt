@@ -11,7 +11,8 @@ use Rattle.syntax.specs.declared.token.Symbol.TheVariants as sign
 use Rattle.syntax.specs.Tokens.{Lexeme, name, word, symbol, Spot}
 use Rattle.syntax.specs.Grammar.{Position, own, assigned, for, no_more, and_then, put_item, put_tag, StepText, Named, Names, Declaration, item_declared, tag_declared, Relation, prescribes}
 use Rattle.syntax.specs.Grammar.{reads, puts_item, puts_tag, environment_puts_item, environment_puts_tag, environment_gets, GraphText, no_sums, sums}
-use Rattle.syntax.specs.Spelled.{plain, at, named, step_pieces, graph_pieces}
+use Rattle.syntax.specs.Spelled.{plain, at, named}
+use Rattle.syntax.specs.GraphTexts.{step_pieces, graph_pieces}
 use Rattle.syntax.specs.Limits.{one_more, name_limits}
 use Rattle.syntax.specs.Expected.{Part, reading, writing, statements, nested_brace, put_target, step_rest, look, look_statement_word, declarations, front_named, front_closed, relations, reader}
 use Rattle.syntax.specs.Expected.{related, declared_limits, Kind, item, tag, opening, Move, look_relation, Expected, exactly, keyword, a_name, whole, operand, behind_operand, components}

@@ -3,7 +3,7 @@ use Rattle.std.proofs.Common.{◌≡◌, ◌≤◌, ◌⊎◌, inl, inr, ℕ, �
 use Rattle.std.specs.Prelude.{⊤}
 use Rattle.syntax.specs.Tokens.{Spot, AreTokens, unknown}
 use Rattle.syntax.specs.Grammar.{Position, GraphText}
-use Rattle.syntax.specs.Limits.{graph_limits, IsWithin}
+use Rattle.syntax.specs.GraphTexts.{graph_limits, IsWithin}
 use Rattle.syntax.specs.Reading.{position_behind, IsSyntaxFault, IsLimitFault}
 use Rattle.syntax.specs.Expected.{Expected, Next, on, limit_passed, next, followed, Verdict, accepted, syntax, too_large, run, graph_expected}
 use Rattle.syntax.proofs.Tellings.{Telling, as_told, of_whole, run_so, same_run, run_on, as_the_machine, TellsOnly, lost_tells}

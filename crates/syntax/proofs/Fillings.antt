@@ -8,10 +8,11 @@ use Rattle.steptree.specs.declared.sheet.TheConstants.{MOST_COLLECTIONS}
 use Rattle.syntax.specs.declared.limits.TheConstants.{MOST_BRACES}
 use Rattle.syntax.specs.declared.token.Word.TheVariants as kept
 use Rattle.syntax.specs.declared.token.Symbol.TheVariants as sign
-use Rattle.syntax.specs.Grammar.{Position, Named, Expr, sum_alone, Sum, Prod, Sums, Statements, Put, put_item, put_tag, Names, Relation, StepText, GraphText}
-use Rattle.syntax.specs.Spelled.{Piece, named, a_sign, sign_at, a_word, expr_pieces, sum_pieces, prod_pieces, sums_pieces, item_pieces, tag_pieces, statements_pieces, names_pieces, bracketed_name}
-use Rattle.syntax.specs.Spelled.{angled_name, round_name, relation_pieces, parameters_pieces, variables_pieces, step_pieces, graph_pieces}
-use Rattle.syntax.specs.Limits.{one_more, name_limits, sum_limits, expr_limits, sums_limits, put_limits, statements_limits, all_names, declarations_limits, relation_limits, steps_limits}
+use Rattle.syntax.specs.Grammar.{Position, Named, Expr, sum_alone, Sum, Prod, Sums, Statements, Put, Names, Relation, StepText, GraphText}
+use Rattle.syntax.specs.Spelled.{Piece, named, a_sign, sign_at, a_word, expr_pieces, sum_pieces, prod_pieces, sums_pieces, statements_pieces}
+use Rattle.syntax.specs.OwnStatements.{put_target_pieces, put_limits}
+use Rattle.syntax.specs.GraphTexts.{names_pieces, bracketed_name, angled_name, round_name, relation_pieces, parameters_pieces, variables_pieces, step_pieces, graph_pieces, all_names, declarations_limits, relation_limits, steps_limits}
+use Rattle.syntax.specs.Limits.{one_more, name_limits, sum_limits, expr_limits, sums_limits, statements_limits}
 use Rattle.syntax.specs.Expected.{Comparing, never, possible, behind_left, Expression, Kind, item, tag, closing, Part, Expected, declared_limits, exactly, keyword, a_name, whole, operand}
 use Rattle.syntax.specs.Expected.{behind_operand, components, more_components, statements, nested_brace, or_else, put_target, declarations, front, front_named, front_closed, component_name}
 use Rattle.syntax.specs.Expected.{behind_component, relations, reader, related, steps, step_name, parameters, parameter, behind_parameter, variables, step_variable, behind_variable}
@@ -71,11 +72,6 @@ block_pieces part block = statements_pieces (own_pieces part) block
 
 abbrev pub block_limits : (part : Part) → ℕ → Block part → List Position
 block_limits part around block = statements_limits (own_limits part) around block
-
--- what is put, after the word
-abbrev pub target_pieces : Put → List Piece
-target_pieces (put_item key value) = item_pieces key ++ a_sign sign.Assign ++ expr_pieces value ++ a_sign sign.Semicolon
-target_pieces (put_tag key) = tag_pieces key ++ a_sign sign.Semicolon
 
 -- ---- names
 
@@ -217,7 +213,7 @@ thing more_components = record { Fills = List Sum; pieces = flat_map comma_and; 
 thing (statements part around) = record { Fills = Block part; pieces = block_pieces part; limits = block_limits part around }
 thing (nested_brace around) = record { Fills = Position; pieces = λ filling. sign_at filling sign.OpenBrace; limits = one_more MOST_BRACES around }
 thing (or_else part around) = record { Fills = Second part; pieces = second_pieces part; limits = second_limits part around }
-thing put_target = record { Fills = Put; pieces = target_pieces; limits = put_limits }
+thing put_target = record { Fills = Put; pieces = put_target_pieces; limits = put_limits }
 thing (declarations items tags) = record { Fills = GraphText; pieces = graph_pieces; limits = text_limits items tags }
 thing (front kind items tags) = record {
   Fills = Both Named (Front kind);

@@ -14,14 +14,14 @@ use Rattle.syntax.specs.declared.token.Symbol.TheVariants as sign
 use Rattle.syntax.specs.declared.tree.Declaration.TheVariants as declares
 use Rattle.syntax.specs.Tokens.{symbol, Spot}
 use Rattle.syntax.specs.Grammar.{Position}
-use Rattle.syntax.specs.Spelled.{Piece, named, a_sign, declaration_pieces, relation_pieces, step_pieces, ArePieces}
+use Rattle.syntax.specs.Spelled.{Piece, named, a_sign, ArePieces}
+use Rattle.syntax.specs.GraphTexts.{declaration_pieces, relation_pieces, step_pieces, declarations_limits, relation_limits, steps_limits, IsDeclaration, IsRelation}
 use Rattle.syntax.specs.Expected.{Kind, Expected, exactly, a_name, front, front_named, front_closed, relations, closing, run, declarations, syntax, steps, graph_expected}
 use Rattle.syntax.specs.Front.{front_of}
 use Rattle.syntax.specs.Parsed.{Reads, Tells, Stops, named_of, Spells}
 use Rattle.syntax.specs.Relations.{IsRelationRest}
 use Rattle.syntax.specs.Declarations.{relation_rest, IsBehindName, IsFront, IsDeclarationRest, AreDeclared, ArePreamble}
-use Rattle.syntax.specs.Limits.{one_more, declarations_limits, relation_limits, steps_limits}
-use Rattle.syntax.specs.Tree.{IsDeclaration, IsRelation}
+use Rattle.syntax.specs.Limits.{one_more}
 use Rattle.syntax.specs.Steps.{AreStepsRead}
 use Rattle.syntax.specs.Graphs.{IsGraphRead}
 use Rattle.syntax.specs.Reading.{position_behind}

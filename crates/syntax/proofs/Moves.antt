@@ -5,7 +5,8 @@ use Rattle.syntax.specs.declared.stop.Stop.{Stop}
 use Rattle.syntax.specs.declared.token.Placed.{Placed}
 use Rattle.syntax.specs.Tokens.{Spot, unknown, spots_of, Lexeme}
 use Rattle.syntax.specs.Grammar.{Position, GraphText}
-use Rattle.syntax.specs.Spelled.{Piece, IsPiece, plain, at, ArePieces, Derives, graph_pieces}
+use Rattle.syntax.specs.Spelled.{Piece, IsPiece, plain, at, ArePieces}
+use Rattle.syntax.specs.GraphTexts.{Derives, graph_pieces}
 use Rattle.syntax.specs.Expected.{Expected, taken, left_out, wrong, passed, look, next, met, ended, followed, syntax, too_large, run}
 use Rattle.syntax.specs.Parsed.{Spells, Goes, Reads, Stops}
 use Rattle.syntax.specs.Front.{front_of, behind_front}

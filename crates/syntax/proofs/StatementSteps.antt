@@ -1,9 +1,9 @@
 -- A statement, and the statements after it.
-use Rattle.std.proofs.Common.{◌≡◌, ℕ, List, [], ◌∷◌, ◌++◌, drop, refl, sym, ap, subst, append_assoc, Some, None, arith}
+use Rattle.std.proofs.Common.{◌≡◌, ℕ, List, [], ◌∷◌, ◌++◌, refl, sym, ap, subst, append_assoc, Some, None, arith}
 use Rattle.std.specs.List.{flat_map}
 use Rattle.std.proofs.lemmas.List.{append-nil}
-use Rattle.steptree.specs.declared.step.Name.{Name}
-use Rattle.steptree.specs.Tree.{NamedBlock, NamedExpression}
+use Rattle.steptree.specs.Tree.{NamedExpression}
+use Rattle.steptree.specs.Simple.{NamedBlock}
 use Rattle.steptree.specs.SeenBlocks.{NamedStatement, joined}
 use Rattle.steptree.specs.declared.block.Statement.TheVariants as statement
 use Rattle.steptree.specs.Tree as block
@@ -11,27 +11,20 @@ use Rattle.syntax.specs.declared.part.Beginning.{Beginning}
 use Rattle.syntax.specs.declared.part.Beginning.TheVariants as beginning
 use Rattle.syntax.specs.declared.stop.Stop.{Stop}
 use Rattle.syntax.specs.declared.token.Word.TheVariants as kept
-use Rattle.syntax.specs.Tokens.{word, Spot}
-use Rattle.syntax.specs.Grammar.{Expr, Statement, assigned, if_alone, if_else, Put}
+use Rattle.syntax.specs.Tokens.{Spot}
+use Rattle.syntax.specs.Grammar.{Statement, if_alone, if_else}
 use Rattle.syntax.specs.Limits.{statement_limits, statements_limits}
-use Rattle.syntax.specs.Spelled.{plain, a_word, in_braces_at, condition_pieces, put_pieces, statement_pieces, statements_pieces}
+use Rattle.syntax.specs.Spelled.{a_word, in_braces_at, condition_pieces, statement_pieces, statements_pieces}
 use Rattle.syntax.specs.Tree.{IsStatement, AreStatements, AreAll}
-use Rattle.syntax.specs.Expected.{Part, reading, writing, Expected, keyword, statements, or_else, run}
+use Rattle.syntax.specs.Expected.{Part, Expected, keyword, statements, or_else, run}
 use Rattle.syntax.specs.Front.{front_of}
-use Rattle.syntax.specs.Blocks.{IsAssignment}
-use Rattle.syntax.specs.Parsed.{Reads, Tells, Stops, named_of}
+use Rattle.syntax.specs.Parsed.{Reads, Tells, Stops}
 use Rattle.syntax.specs.Statements.{Own, own_pieces, own_limits, is_own, Begins, assignment_expected, choice_expected, repetition_expected, own_expected, IsStatementOf, IsStatementRead, IsChoiceRead}
 use Rattle.syntax.specs.Statements.{IsConditionRead, IsNestedRead, Second, second_pieces, second_limits, IsSecond, IsSecondRead, NoneBegins, statements_of, StatementsSoFar, AreRead}
 use Rattle.syntax.proofs.Moves.{◌⨟◌, reads_on}
 use Rattle.syntax.proofs.KeyParts.{flat_more, flat_none, all_more}
 
 -- ---- parts of a statement
-
-pub assigned_is : (part : Part) (variable : Name) (expr : Expr) (tree rest : NamedBlock) → IsAssignment variable expr tree rest → IsStatement (is_own part) (assigned (named_of variable) expr) tree (λ other. other ≡ rest)
-assigned_is part variable expr tree rest is = grind arith
-
-pub behind_put : (put : Put) → plain (word kept.Put) ∷ drop 1 (put_pieces put) ≡ put_pieces put
-behind_put put = grind arith
 
 -- a choice, with a second block or none
 pub choice_read : {part : Part} {around : ℕ} {value : NamedExpression} {one two : NamedBlock} {before middle three four after : List Spot}
@@ -101,13 +94,9 @@ all_limits part around (first ∷ read) = ap (λ limits. statement_limits (own_l
 
 -- ---- what follows a statement
 
-own_weaker : (part : Part) (it : Own part) (tree : NamedBlock) (P Q : NamedBlock → Type 0) → ((other : NamedBlock) → P other → Q other) → is_own part it tree P → is_own part it tree Q
-own_weaker reading it tree P Q weaker is = grind (arith, weaker)
-own_weaker writing it tree P Q weaker is = grind (arith, weaker)
-
 statement_weaker : (part : Part) (statement : Statement (Own part)) (tree : NamedBlock) (P Q : NamedBlock → Type 0) → ((other : NamedBlock) → P other → Q other)
     → IsStatement (is_own part) statement tree P → IsStatement (is_own part) statement tree Q
-statement_weaker part statement tree P Q weaker is = grind (arith, own_weaker)
+statement_weaker part statement tree P Q weaker is = grind (arith, weaker)
 
 are_joined : (part : Part) (read : List (Statement (Own part))) (trees : List NamedStatement) → AreAll (IsStatementOf part) read trees → AreStatements (is_own part) (statements_of read) (joined trees block.End)
 are_joined part [] trees are = grind arith

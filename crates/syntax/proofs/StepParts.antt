@@ -14,9 +14,11 @@ use Rattle.syntax.specs.declared.token.Symbol.TheVariants as sign
 use Rattle.syntax.specs.declared.token.Word.TheVariants as kept
 use Rattle.syntax.specs.Tokens.{Lexeme, Spot}
 use Rattle.syntax.specs.Grammar.{Named, StepText}
-use Rattle.syntax.specs.Limits.{name_limits, names_behind, one_more, all_names, get_limits, put_limits, statements_limits, step_limits, steps_limits}
-use Rattle.syntax.specs.Spelled.{Piece, named, a_sign, names_pieces, a_word, step_pieces}
-use Rattle.syntax.specs.Tree.{IsName, AreAll, IsStep}
+use Rattle.syntax.specs.Limits.{name_limits, names_behind, one_more, statements_limits}
+use Rattle.syntax.specs.OwnStatements.{get_limits, put_limits}
+use Rattle.syntax.specs.GraphTexts.{all_names, step_limits, steps_limits, names_pieces, step_pieces, IsStep}
+use Rattle.syntax.specs.Spelled.{Piece, named, a_sign, a_word}
+use Rattle.syntax.specs.Tree.{IsName, AreAll}
 use Rattle.syntax.specs.Expected.{Expected, exactly, look_name, look_behind_parameter, look_behind_variable, component_name, behind_component, parameters, parameter, behind_parameter, variables}
 use Rattle.syntax.specs.Expected.{step_variable, behind_variable, step_rest, steps}
 use Rattle.syntax.specs.NameLists.{TakesName, IsFull, StopsAtName}

@@ -1,5 +1,5 @@
 -- What a token does with a thing that may come: the move of the machine, and what the fillings become.
-use Rattle.std.proofs.Common.{◌≡◌, ◌==◌, ℕ, Bool, true, false, if◌then◌else◌, List, [], ◌∷◌, ◌++◌, Some, None, refl, sym, ap, append_assoc, rules, arith}
+use Rattle.std.proofs.Common.{◌≡◌, ◌==◌, ℕ, Bool, true, false, List, [], ◌∷◌, ◌++◌, Some, None, refl, sym, ap, append_assoc, rules, arith, if◌then◌else◌}
 use Rattle.std.proofs.lemmas.List.{append-nil}
 use Rattle.terms.specs.declared.key.TheConstants.{MAX_COMPONENTS}
 use Rattle.syntax.specs.declared.token.Word.{Word}
@@ -7,7 +7,8 @@ use Rattle.syntax.specs.declared.token.Symbol.{Symbol}
 use Rattle.syntax.specs.declared.token.Symbol.TheVariants as sign
 use Rattle.syntax.specs.Tokens.{Lexeme, name, word, symbol, unknown, Spot}
 use Rattle.syntax.specs.Grammar.{Position}
-use Rattle.syntax.specs.Spelled.{Piece, plain, at, IsPiece, named, names_pieces}
+use Rattle.syntax.specs.Spelled.{Piece, plain, at, IsPiece, named}
+use Rattle.syntax.specs.GraphTexts.{names_pieces}
 use Rattle.syntax.specs.Limits.{name_limits, one_more}
 use Rattle.syntax.specs.Expected.{Expected, exactly, keyword, Move, taken, left_out, wrong, passed, within, sign_number, word_number, is_taken, look, look_if, look_if_word, look_name}
 use Rattle.syntax.specs.Expected.{step_name_limits, parameters, behind_parameter, behind_variable}

@@ -9,9 +9,11 @@ use Rattle.syntax.specs.declared.token.Word.TheVariants as kept
 use Rattle.syntax.specs.declared.token.Symbol.TheVariants as sign
 use Rattle.syntax.specs.Grammar.{Position, Named, no_sums, sums, own, assigned, if_alone, if_else, for, no_more, and_then, put_item, put_tag, item_declared, tag_declared, prescribes, reads, puts_item}
 use Rattle.syntax.specs.Grammar.{puts_tag, environment_puts_item, environment_puts_tag, environment_gets, Names, Declaration, Relation, StepText}
-use Rattle.syntax.specs.Limits.{one_more, name_limits, names_behind, all_names, step_names, statements_limits, get_limits, put_limits, steps_limits}
+use Rattle.syntax.specs.Limits.{one_more, name_limits, names_behind, statements_limits}
+use Rattle.syntax.specs.OwnStatements.{get_limits, put_limits}
+use Rattle.syntax.specs.GraphTexts.{all_names, step_names, steps_limits, declaration_pieces, relation_pieces, step_pieces}
 use Rattle.syntax.specs.Tokens.{Spot}
-use Rattle.syntax.specs.Spelled.{Piece, plain, at, declaration_pieces, relation_pieces, step_pieces}
+use Rattle.syntax.specs.Spelled.{Piece, plain, at}
 use Rattle.syntax.specs.Expected.{Expected, exactly, keyword, a_name, whole, operand, behind_operand, components, more_components, statements, nested_brace, or_else, put_target, declarations, front}
 use Rattle.syntax.specs.Expected.{front_named, front_closed, component_name, behind_component, relations, reader, related, steps, step_name, parameters, parameter, behind_parameter, variables}
 use Rattle.syntax.specs.Expected.{step_variable, behind_variable, Kind, item, tag, reading, writing, Move, step_rest}
@@ -194,8 +196,7 @@ unfolded more_components is (sum ∷ more) = λ place. (sum ▸ more ▸ tt, ref
 unfolded (statements part around) is no_more = (refl, refl)
 unfolded (statements reading around) is (and_then (own get) more) =
     λ place. (get.variable ▸ tt ▸ tt ▸ get.item.collection ▸ get.item.components ▸ tt ▸ tt ▸ more ▸ tt, refl, covers_same (simp (append_assoc, append-nil)))
-unfolded (statements writing around) is (and_then (own (put_item key value)) more) = λ place. (put_item key value ▸ more ▸ tt, refl, covers_same (simp append-nil))
-unfolded (statements writing around) is (and_then (own (put_tag key)) more) = λ place. (put_tag key ▸ more ▸ tt, refl, covers_same (simp append-nil))
+unfolded (statements writing around) is (and_then (own put) more) = λ place. (put ▸ more ▸ tt, refl, covers_same (simp append-nil))
 unfolded (statements part around) is (and_then (assigned it expr) more) = (tt ▸ expr ▸ tt ▸ more ▸ tt, refl, covers_same (simp (append_assoc, append-nil)))
 unfolded (statements reading around) is (and_then (if_alone condition brace block) more) =
     λ place. (tt ▸ condition ▸ tt ▸ brace ▸ block ▸ tt ▸ None ▸ more ▸ tt, refl, covers_same (simp (append_assoc, append-nil)))

@@ -1,15 +1,16 @@
 -- An induction over tokens that fill what may come: a thing is left out, or its first token is taken, or an expression is read.
-use Rattle.std.proofs.Common.{◌≡◌, Bool, true, false, if◌then◌else◌, List, [], ◌∷◌, ◌++◌, Some, refl, sym, ap, ◌∙◌, arith, ◌≤◌, ℕ, zero, suc, length, subst, append_assoc}
+use Rattle.std.proofs.Common.{◌≡◌, Bool, true, false, List, [], ◌∷◌, ◌++◌, Some, refl, sym, ap, ◌∙◌, arith, ◌≤◌, ℕ, zero, suc, length, subst, append_assoc, if◌then◌else◌}
 use Rattle.std.proofs.lemmas.List.{append-nil}
 use Rattle.syntax.specs.Tokens.{Lexeme, Spot}
 use Rattle.syntax.specs.Grammar.{Position, own, assigned, no_more, and_then, put_item, GraphText, Key}
-use Rattle.syntax.specs.Spelled.{Piece, IsPiece, ArePieces, Derives, named, a_sign, sums_pieces}
+use Rattle.syntax.specs.Spelled.{Piece, IsPiece, ArePieces, named, a_sign, sums_pieces}
+use Rattle.syntax.specs.GraphTexts.{Derives, graph_limits}
 use Rattle.syntax.specs.Front.{front_of}
 use Rattle.syntax.specs.Parsed.{Spells}
 use Rattle.syntax.specs.Expected.{Expected, exactly, keyword, components, more_components, statements, nested_brace, or_else, declarations, behind_component, relations, steps, variables, Part}
 use Rattle.syntax.specs.Expected.{reading, writing, left_out, look, Comparing, whole, operand, behind_operand, Move, taken, within, met, followed, run, accepted, graph_expected, Kind}
 use Rattle.syntax.specs.Expected.{closing, key_rest}
-use Rattle.syntax.specs.Limits.{graph_limits, key_limits}
+use Rattle.syntax.specs.Limits.{key_limits}
 use Rattle.syntax.proofs.Fillings.{Filling, filling_pieces, Fillings, fillings_pieces, Block, block_pieces, ◌▸◌, Whole, whole_pieces, filling_limits, fillings_limits, joined, joined_row, parted}
 use Rattle.syntax.proofs.Moves.{front_is, lexeme_in, halves, shorter, spelled, graph_spelled}
 use Rattle.syntax.proofs.Behind.{Class, anything, a_bracket, a_brace, a_statement, the_word_read, more_sums, an_end, class, is_begun, is_one, stands, admits, chain, first_of, second_of, is_expression}

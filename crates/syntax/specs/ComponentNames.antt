@@ -4,8 +4,9 @@ use Rattle.std.specs.List.{flat_map}
 use Rattle.terms.specs.declared.key.TheConstants.{MAX_COMPONENTS}
 use Rattle.syntax.specs.Tokens.{Spot}
 use Rattle.syntax.specs.Grammar.{Named, Names}
-use Rattle.syntax.specs.Limits.{name_limits, names_behind, all_names}
-use Rattle.syntax.specs.Spelled.{Piece, named, names_pieces}
+use Rattle.syntax.specs.Limits.{name_limits, names_behind}
+use Rattle.syntax.specs.GraphTexts.{all_names, names_pieces}
+use Rattle.syntax.specs.Spelled.{Piece, named}
 use Rattle.syntax.specs.Expected.{component_name}
 use Rattle.syntax.specs.Parsed.{Spells, Goes, Reads}
 

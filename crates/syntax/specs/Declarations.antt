@@ -13,9 +13,10 @@ use Rattle.syntax.specs.declared.tree.Declaration.TheVariants as declares
 use Rattle.syntax.specs.declared.tree.Relation.{Relation as Related}
 use Rattle.syntax.specs.Tokens.{Spot}
 use Rattle.syntax.specs.Grammar.{Position, Names, Declaration, Relation}
-use Rattle.syntax.specs.Limits.{name_limits, names_behind, all_names, declarations_limits, relation_limits}
-use Rattle.syntax.specs.Spelled.{Piece, a_sign, sign_at, names_pieces, after_colon, declaration_pieces, relation_pieces}
-use Rattle.syntax.specs.Tree.{AreAll, IsDeclaration, IsRelation}
+use Rattle.syntax.specs.Limits.{name_limits, names_behind}
+use Rattle.syntax.specs.GraphTexts.{all_names, declarations_limits, relation_limits, names_pieces, after_colon, declaration_pieces, relation_pieces, IsDeclaration, IsRelation}
+use Rattle.syntax.specs.Spelled.{Piece, a_sign, sign_at}
+use Rattle.syntax.specs.Tree.{AreAll}
 use Rattle.syntax.specs.Expected.{Kind, item, tag, Expected, exactly, declarations, front as after_bracket, front_named, front_closed, component_name, relations, declared, declared_limits, closing}
 use Rattle.syntax.specs.Parsed.{Reads, Stops}
 use Rattle.syntax.specs.NameLists.{IsFull}

@@ -1,5 +1,5 @@
 -- What may come next in a graph text: a machine that reads tokens from the left, one at each step, and never looks back.
-use Rattle.std.specs.Prelude.{◌≡◌, ℕ, zero, suc, ◌+◌, ◌*◌, ◌==◌, Bool, if◌then◌else◌, codes, List, [], ◌∷◌, ◌++◌, length, Option, Some, None}
+use Rattle.std.specs.Prelude.{◌≡◌, ℕ, zero, suc, ◌+◌, ◌*◌, ◌==◌, Bool, codes, List, [], ◌∷◌, ◌++◌, length, Option, Some, None, if◌then◌else◌}
 use Rattle.terms.specs.declared.key.TheConstants.{MAX_COMPONENTS}
 use Rattle.steptree.specs.declared.slot.TheConstants.{MOST_NAMES}
 use Rattle.steptree.specs.declared.sheet.TheConstants.{MOST_COLLECTIONS}
@@ -370,9 +370,17 @@ abbrev pub look_nested_brace : ℕ → Lexeme → Position → Move
 look_nested_brace around (symbol sign.OpenBrace) place = within (one_more MOST_BRACES around place) (taken [])
 look_nested_brace around _ place = wrong
 
+-- after `put [`
+abbrev pub item_rest : List Expected
+item_rest = key_rest item ++ exactly sign.Assign ∷ whole possible ∷ exactly sign.Semicolon ∷ []
+
+-- after `put <`
+abbrev pub tag_rest : List Expected
+tag_rest = key_rest tag ++ exactly sign.Semicolon ∷ []
+
 abbrev pub look_put_target : Lexeme → Move
-look_put_target (symbol sign.OpenBracket) = taken (key_rest item ++ exactly sign.Assign ∷ whole possible ∷ exactly sign.Semicolon ∷ [])
-look_put_target (symbol sign.Less) = taken (key_rest tag ++ exactly sign.Semicolon ∷ [])
+look_put_target (symbol sign.OpenBracket) = taken item_rest
+look_put_target (symbol sign.Less) = taken tag_rest
 look_put_target _ = wrong
 
 -- a step from its word `read` on; and a step after its word `step`, with `before` steps before it

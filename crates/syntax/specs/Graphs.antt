@@ -5,9 +5,7 @@ use Rattle.syntax.specs.declared.stop.Stop.{Stop}
 use Rattle.syntax.specs.declared.tree.Tree.{Tree}
 use Rattle.syntax.specs.Tokens.{Spot, AreTokens}
 use Rattle.syntax.specs.Grammar.{GraphText}
-use Rattle.syntax.specs.Spelled.{Derives}
-use Rattle.syntax.specs.Limits.{IsWithin}
-use Rattle.syntax.specs.Tree.{IsTree}
+use Rattle.syntax.specs.GraphTexts.{Derives, IsWithin, IsTree}
 use Rattle.syntax.specs.Expected.{run, graph_expected}
 use Rattle.syntax.specs.Parsed.{Tells}
 use Rattle.syntax.specs.Reading.{HasCause}

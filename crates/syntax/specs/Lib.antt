@@ -4,6 +4,7 @@ pub mod Declarations
 pub mod Expected
 pub mod Front
 pub mod Grammar
+pub mod GraphTexts
 pub mod Graphs
 pub mod Joints
 pub mod Keys
@@ -11,6 +12,7 @@ pub mod Limits
 pub mod MayCome
 pub mod NameLists
 pub mod Natural
+pub mod OwnStatements
 pub mod Parsed
 pub mod Partial
 pub mod Reading

@@ -1,13 +1,8 @@
 -- The places at which a graph text passes a limit, computed from its derivation.
-use Rattle.std.specs.Prelude.{◌≡◌, ℕ, suc, max, nat_lt, if◌then◌else◌, List, [], ◌∷◌, ◌++◌, length, map, drop, Option, Some, None}
+use Rattle.std.specs.Prelude.{◌≡◌, ℕ, suc, max, nat_lt, List, [], ◌∷◌, ◌++◌, length, map, drop, if◌then◌else◌}
 use Rattle.std.specs.List.{flat_map}
-use Rattle.terms.specs.declared.key.TheConstants.{MAX_COMPONENTS}
-use Rattle.steptree.specs.declared.slot.TheConstants.{MOST_NAMES}
-use Rattle.steptree.specs.declared.sheet.TheConstants.{MOST_COLLECTIONS}
 use Rattle.syntax.specs.declared.limits.TheConstants.{MOST_NAME_BYTES, MOST_DEPTH, MOST_BRACKETS, MOST_BRACES}
-use Rattle.syntax.specs.Grammar.{Position, Named, Expr, sum_alone, compared, Sum, prod_alone, added, Prod, unary_alone, multiplied, Unary, negated, literal, variable, bracketed, Sums, no_sums, sums, Key}
-use Rattle.syntax.specs.Grammar.{Statement, own, assigned, if_alone, if_else, for, Statements, no_more, and_then, Get, Put, put_item, put_tag}
-use Rattle.syntax.specs.Grammar.{Names, Declaration, item_declared, tag_declared, Relation, prescribes, reads, puts_item, puts_tag, environment_puts_item, environment_puts_tag, environment_gets, StepText, GraphText}
+use Rattle.syntax.specs.Grammar.{Position, Named, Expr, sum_alone, compared, Sum, prod_alone, added, Prod, unary_alone, multiplied, Unary, negated, literal, variable, bracketed, Sums, no_sums, sums, Key, Statement, own, assigned, if_alone, if_else, for, Statements, no_more, and_then}
 
 -- one more at `place`, with `before` of them before it, where at most `most` may be
 abbrev pub one_more : ℕ → ℕ → Position → List Position
@@ -118,56 +113,3 @@ module _ {B : Type 0} (own_limits : B → List Position) where
     pub statements_limits : ℕ → Statements B → List Position
     statements_limits around no_more = []
     statements_limits around (and_then first rest) = statement_limits around first ++ statements_limits around rest
-
-abbrev pub get_limits : Get → List Position
-get_limits get = name_limits get.variable ++ key_limits get.item
-
-abbrev pub put_limits : Put → List Position
-put_limits (put_item item value) = key_limits item ++ expr_limits value
-put_limits (put_tag tag) = key_limits tag
-
--- ---- graphs
-
-abbrev pub all_names : Option Names → List Named
-all_names None = []
-all_names (Some names) = names.first ∷ names.more
-
--- a collection's name, and then its components
-abbrev pub declared_limits : Named → Option Names → List Position
-declared_limits it components = name_limits it ++ flat_map name_limits (all_names components) ++ names_behind MAX_COMPONENTS (all_names components)
-
--- with `items` collections of items and `tags` of tags before
-abbrev pub declarations_limits : ℕ → ℕ → List Declaration → List Position
-declarations_limits items tags [] = []
-declarations_limits items tags (item_declared it components ∷ more) =
-    one_more MOST_COLLECTIONS items it.1 ++ declared_limits it components ++ declarations_limits (suc items) tags more
-declarations_limits items tags (tag_declared it components ∷ more) =
-    one_more MOST_COLLECTIONS tags it.1 ++ declared_limits it components ++ declarations_limits items (suc tags) more
-
-abbrev pub relation_limits : Relation → List Position
-relation_limits (prescribes tag step) = name_limits tag ++ name_limits step
-relation_limits (reads position item step) = name_limits item ++ name_limits step
-relation_limits (puts_item position step item) = name_limits step ++ name_limits item
-relation_limits (puts_tag position step tag) = name_limits step ++ name_limits tag
-relation_limits (environment_puts_item position item) = name_limits item
-relation_limits (environment_puts_tag position tag) = name_limits tag
-relation_limits (environment_gets position item) = name_limits item
-
-abbrev pub step_names : StepText → List Named
-step_names step = all_names step.parameters ++ all_names step.variables
-
-abbrev pub step_limits : StepText → List Position
-step_limits step = name_limits step.name ++ flat_map name_limits (step_names step) ++ names_behind MAX_COMPONENTS (all_names step.parameters)
-    ++ names_behind MOST_NAMES (step_names step) ++ statements_limits get_limits 0 step.read ++ statements_limits put_limits 0 step.write
-
--- with `before` steps before
-abbrev pub steps_limits : ℕ → List StepText → List Position
-steps_limits before [] = []
-steps_limits before (step ∷ more) = one_more MOST_COLLECTIONS before step.name.1 ++ step_limits step ++ steps_limits (suc before) more
-
--- all places at which a limit is passed
-abbrev pub graph_limits : GraphText → List Position
-graph_limits graph = declarations_limits 0 0 graph.declarations ++ flat_map relation_limits graph.relations ++ steps_limits 0 graph.steps
-
-abbrev pub IsWithin : GraphText → Type 0
-IsWithin graph = graph_limits graph ≡ []

@@ -4,8 +4,9 @@ use Rattle.syntax.specs.declared.token.Symbol.{Symbol}
 use Rattle.syntax.specs.declared.token.Symbol.TheVariants as sign
 use Rattle.syntax.specs.Tokens.{Spot, symbol}
 use Rattle.syntax.specs.Grammar.{Position, Expr, Key, GraphText}
-use Rattle.syntax.specs.Spelled.{ArePieces, Derives, named, a_sign, expr_pieces, sums_pieces}
-use Rattle.syntax.specs.Limits.{expr_limits, key_limits, graph_limits, IsWithin}
+use Rattle.syntax.specs.Spelled.{ArePieces, named, a_sign, expr_pieces, sums_pieces}
+use Rattle.syntax.specs.GraphTexts.{Derives, graph_limits, IsWithin}
+use Rattle.syntax.specs.Limits.{expr_limits, key_limits}
 use Rattle.syntax.specs.Expected.{Expected, Kind, closing, key_rest, whole, possible, run, graph_expected, accepted, too_large}
 
 -- a sign that may follow the expression of a statement

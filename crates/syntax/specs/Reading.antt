@@ -6,10 +6,8 @@ use Rattle.syntax.specs.declared.fault.TreeFault.{TreeFault}
 use Rattle.syntax.specs.declared.tree.Tree.{Tree}
 use Rattle.syntax.specs.Tokens.{Spot, AreTokens}
 use Rattle.syntax.specs.Grammar.{Position, GraphText}
-use Rattle.syntax.specs.Spelled.{Derives}
-use Rattle.syntax.specs.Limits.{IsWithin, graph_limits}
+use Rattle.syntax.specs.GraphTexts.{Derives, IsWithin, graph_limits, IsTree}
 use Rattle.syntax.specs.Expected.{run, graph_expected, syntax, too_large}
-use Rattle.syntax.specs.Tree.{IsTree}
 
 -- the text is in the grammar and within the limits, and `tree` is its tree
 pub record IsRead (text : List ℕ) (tree : Tree) : Type 0 where

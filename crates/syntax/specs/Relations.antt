@@ -8,9 +8,9 @@ use Rattle.syntax.specs.declared.token.Symbol.TheVariants as sign
 use Rattle.syntax.specs.declared.tree.Relation.{Relation as Related}
 use Rattle.syntax.specs.Tokens.{Spot}
 use Rattle.syntax.specs.Grammar.{Position, Named, Relation}
-use Rattle.syntax.specs.Limits.{name_limits, relation_limits}
-use Rattle.syntax.specs.Spelled.{Piece, named, a_sign, sign_at, item_at, bracketed_name, angled_name, environment_at, relation_pieces}
-use Rattle.syntax.specs.Tree.{IsRelation}
+use Rattle.syntax.specs.Limits.{name_limits}
+use Rattle.syntax.specs.GraphTexts.{relation_limits, item_at, bracketed_name, angled_name, environment_at, relation_pieces, IsRelation}
+use Rattle.syntax.specs.Spelled.{Piece, named, a_sign, sign_at}
 use Rattle.syntax.specs.Expected.{Expected, exactly, a_name, reader, related, relations, steps}
 use Rattle.syntax.specs.Parsed.{Reads, named_of}
 

@@ -1,15 +1,12 @@
 -- The tokens that a derivation of the grammar spells.
-use Rattle.std.specs.Prelude.{◌≡◌, ⊤, codes, List, [], ◌∷◌, ◌++◌, Option, Some, None}
+use Rattle.std.specs.Prelude.{◌≡◌, ⊤, List, [], ◌∷◌, ◌++◌}
 use Rattle.std.specs.List.{flat_map}
 use Rattle.syntax.specs.declared.token.Word.{Word}
 use Rattle.syntax.specs.declared.token.Word.TheVariants as kept
 use Rattle.syntax.specs.declared.token.Symbol.{Symbol}
 use Rattle.syntax.specs.declared.token.Symbol.TheVariants as sign
 use Rattle.syntax.specs.Tokens.{Lexeme, name, number, word, symbol, Spot}
-use Rattle.syntax.specs.Grammar.{Position, Named, Comparison, equal, not_equal, less, less_or_equal, greater, greater_or_equal, Addition, plus, minus, Multiplication, times, over, modulo}
-use Rattle.syntax.specs.Grammar.{Expr, sum_alone, compared, Sum, prod_alone, added, Prod, unary_alone, multiplied, Unary, negated, literal, variable, bracketed, Sums, no_sums, sums, Key}
-use Rattle.syntax.specs.Grammar.{Statement, own, assigned, if_alone, if_else, for, Statements, no_more, and_then, Get, Put, put_item, put_tag}
-use Rattle.syntax.specs.Grammar.{Names, Declaration, item_declared, tag_declared, Relation, prescribes, reads, puts_item, puts_tag, environment_puts_item, environment_puts_tag, environment_gets, StepText, GraphText}
+use Rattle.syntax.specs.Grammar.{Position, Named, Comparison, equal, not_equal, less, less_or_equal, greater, greater_or_equal, Addition, plus, minus, Multiplication, times, over, modulo, Expr, sum_alone, compared, Sum, prod_alone, added, Prod, unary_alone, multiplied, Unary, negated, literal, variable, bracketed, Sums, no_sums, sums, Key, Statement, own, assigned, if_alone, if_else, for, Statements, no_more, and_then}
 
 -- a token that a derivation spells: anywhere, or at a position
 pub data Piece : Type 0 where
@@ -102,75 +99,6 @@ module _ {B : Type 0} (own_pieces : B → List Piece) where
     statements_pieces no_more = []
     statements_pieces (and_then first rest) = statement_pieces first ++ statements_pieces rest
 
-abbrev pub get_pieces : Get → List Piece
-get_pieces get = a_word kept.Get ++ named get.variable ∷ a_sign sign.Assign ++ item_pieces get.item ++ a_sign sign.Semicolon
-
-abbrev pub put_pieces : Put → List Piece
-put_pieces (put_item item value) = a_word kept.Put ++ item_pieces item ++ a_sign sign.Assign ++ expr_pieces value ++ a_sign sign.Semicolon
-put_pieces (put_tag tag) = a_word kept.Put ++ tag_pieces tag ++ a_sign sign.Semicolon
-
--- ---- graphs
-
-abbrev pub names_pieces : Names → List Piece
-names_pieces names = named names.first ∷ flat_map (λ it. a_sign sign.Comma ++ named it ∷ []) names.more
-
--- ":" and names, if there are some
-abbrev pub after_colon : Option Names → List Piece
-after_colon None = []
-after_colon (Some names) = a_sign sign.Colon ++ names_pieces names
-
-abbrev pub bracketed_name : Named → List Piece
-bracketed_name it = a_sign sign.OpenBracket ++ named it ∷ a_sign sign.CloseBracket
-
-abbrev pub angled_name : Named → List Piece
-angled_name it = a_sign sign.Less ++ named it ∷ a_sign sign.Greater
-
-abbrev pub round_name : Named → List Piece
-round_name it = a_sign sign.OpenRound ++ named it ∷ a_sign sign.CloseRound
-
-abbrev pub declaration_pieces : Declaration → List Piece
-declaration_pieces (item_declared it components) = a_sign sign.OpenBracket ++ named it ∷ after_colon components ++ a_sign sign.CloseBracket ++ a_sign sign.Semicolon
-declaration_pieces (tag_declared it components) = a_sign sign.Less ++ named it ∷ after_colon components ++ a_sign sign.Greater ++ a_sign sign.Semicolon
-
-abbrev pub item_at : Position → Named → List Piece
-item_at position it = sign_at position sign.OpenBracket ++ named it ∷ a_sign sign.CloseBracket
-
-abbrev pub step_at : Position → Named → List Piece
-step_at position it = sign_at position sign.OpenRound ++ named it ∷ a_sign sign.CloseRound
-
-abbrev pub environment_at : Position → List Piece
-environment_at position = at position (word kept.Env) ∷ []
-
--- one side, an arrow, the other side
-abbrev pub arrow : List Piece → List Piece → List Piece
-arrow from to = from ++ a_sign sign.Arrow ++ to ++ a_sign sign.Semicolon
-
-abbrev pub relation_pieces : Relation → List Piece
-relation_pieces (prescribes tag step) = angled_name tag ++ a_sign sign.DoubleColon ++ round_name step ++ a_sign sign.Semicolon
-relation_pieces (reads position item step) = arrow (item_at position item) (round_name step)
-relation_pieces (puts_item position step item) = arrow (step_at position step) (bracketed_name item)
-relation_pieces (puts_tag position step tag) = arrow (step_at position step) (angled_name tag)
-relation_pieces (environment_puts_item position item) = arrow (environment_at position) (bracketed_name item)
-relation_pieces (environment_puts_tag position tag) = arrow (environment_at position) (angled_name tag)
-relation_pieces (environment_gets position item) = arrow (item_at position item) (a_word kept.Env)
-
-abbrev pub parameters_pieces : Option Names → List Piece
-parameters_pieces None = []
-parameters_pieces (Some names) = names_pieces names
-
-abbrev pub variables_pieces : Option Names → List Piece
-variables_pieces None = []
-variables_pieces (Some names) = a_word kept.Var ++ names_pieces names ++ a_sign sign.Semicolon
-
-abbrev pub step_pieces : StepText → List Piece
-step_pieces step = a_word kept.Step ++ named step.name ∷ a_sign sign.OpenRound ++ parameters_pieces step.parameters ++ a_sign sign.CloseRound
-    ++ in_braces (variables_pieces step.variables
-    ++ a_word kept.Read ++ in_braces (statements_pieces get_pieces step.read)
-    ++ a_word kept.Write ++ in_braces (statements_pieces put_pieces step.write))
-
-abbrev pub graph_pieces : GraphText → List Piece
-graph_pieces graph = flat_map declaration_pieces graph.declarations ++ flat_map relation_pieces graph.relations ++ flat_map step_pieces graph.steps
-
 -- ---- the tokens of a text
 
 -- the token is this piece
@@ -183,15 +111,3 @@ abbrev pub ArePieces : List Piece → List Spot → Type 0
 ArePieces [] [] = ⊤
 ArePieces (piece ∷ pieces) (spot ∷ spots) = IsPiece piece spot × ArePieces pieces spots
 ArePieces pieces spots = ⊥
-
--- the tokens are a graph text with this derivation
-abbrev pub Derives : GraphText → List Spot → Type 0
-Derives graph spots = ArePieces (graph_pieces graph) spots
-
--- the derivation of a declaration of an item collection with one component
-abbrev pub GrammarExample : Type 0
-GrammarExample = Derives (record {
-  declarations = item_declared ((codes "x"), 1) (Some (record { first = ((codes "i"), 4); more = [] })) ∷ [];
-  relations = [];
-  steps = [];
-}) ((symbol sign.OpenBracket, 0) ∷ (name (codes "x"), 1) ∷ (symbol sign.Colon, 2) ∷ (name (codes "i"), 4) ∷ (symbol sign.CloseBracket, 5) ∷ (symbol sign.Semicolon, 6) ∷ [])

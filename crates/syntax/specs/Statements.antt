@@ -1,7 +1,8 @@
 -- Blocks that are read, statement by statement.
 use Rattle.std.specs.Prelude.{◌≡◌, ℕ, suc, List, [], ◌∷◌, ◌++◌, Option, Some, None, MatchOption}
 use Rattle.std.specs.List.{flat_map}
-use Rattle.steptree.specs.Tree.{NamedExpression, NamedBlock, End}
+use Rattle.steptree.specs.Tree.{NamedExpression, End}
+use Rattle.steptree.specs.Simple.{NamedSimple, NamedBlock}
 use Rattle.steptree.specs.SeenBlocks.{NamedStatement, stated}
 use Rattle.syntax.specs.declared.limits.TheConstants.{MOST_BRACES}
 use Rattle.syntax.specs.declared.part.Part.{Part as Told}
@@ -13,9 +14,10 @@ use Rattle.syntax.specs.declared.token.Word.TheVariants as kept
 use Rattle.syntax.specs.declared.token.Symbol.TheVariants as sign
 use Rattle.syntax.specs.Tokens.{Lexeme, name, word, Spot}
 use Rattle.syntax.specs.Grammar.{Position, Expr, Statement, if_alone, if_else, Statements, no_more, and_then, Get, Put}
-use Rattle.syntax.specs.Limits.{one_more, expr_limits, statement_limits, statements_limits, get_limits, put_limits}
-use Rattle.syntax.specs.Spelled.{Piece, a_sign, a_word, sign_at, in_braces_at, expr_pieces, statement_pieces, statements_pieces, get_pieces, put_pieces}
-use Rattle.syntax.specs.Tree.{IsExpr, IsStatement, AreStatements, IsGet, IsPut, AreAll}
+use Rattle.syntax.specs.Limits.{one_more, expr_limits, statement_limits, statements_limits}
+use Rattle.syntax.specs.OwnStatements.{get_limits, put_limits, get_pieces, put_pieces, IsGet, IsPut}
+use Rattle.syntax.specs.Spelled.{Piece, a_sign, a_word, sign_at, in_braces_at, expr_pieces, statement_pieces, statements_pieces}
+use Rattle.syntax.specs.Tree.{IsExpr, IsStatement, AreStatements, AreAll}
 use Rattle.syntax.specs.Expected.{Part, reading, writing, Expected, exactly, keyword, a_name, whole, possible, statements, nested_brace, nested, or_else, put_target, get_rest, left_out, look_statement}
 use Rattle.syntax.specs.Blocks.{assignment_rest}
 use Rattle.syntax.specs.Parsed.{Goes, Reads}
@@ -46,7 +48,7 @@ abbrev pub own_rest : Part → List Expected
 own_rest reading = get_rest
 own_rest writing = put_target ∷ []
 
--- what one of them spells, the limits that are passed in it, and the block that begins with it
+-- what one of them spells, the limits that are passed in it, and its statement with names
 abbrev pub own_pieces : (part : Part) → Own part → List Piece
 own_pieces reading = get_pieces
 own_pieces writing = put_pieces
@@ -55,7 +57,7 @@ abbrev pub own_limits : (part : Part) → Own part → List Position
 own_limits reading = get_limits
 own_limits writing = put_limits
 
-abbrev pub is_own : (part : Part) → Own part → NamedBlock → (NamedBlock → Type 0) → Type 0
+abbrev pub is_own : (part : Part) → Own part → NamedSimple → Type 0
 is_own reading = IsGet
 is_own writing = IsPut
 

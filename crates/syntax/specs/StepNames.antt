@@ -1,5 +1,5 @@
 -- Lists of the names of a step.
-use Rattle.std.specs.Prelude.{◌≡◌, ◌<◌, ◌==◌, ℕ, suc, Bool, true, false, if◌then◌else◌, List, [], ◌∷◌, ◌++◌, length, Option, Some}
+use Rattle.std.specs.Prelude.{◌≡◌, ◌<◌, ◌==◌, ℕ, suc, Bool, true, false, List, [], ◌∷◌, ◌++◌, length, Option, Some, if◌then◌else◌}
 use Rattle.std.specs.List.{flat_map}
 use Rattle.steptree.specs.declared.step.Name.{Name}
 use Rattle.syntax.specs.declared.stop.Stop.{Stop}
@@ -7,8 +7,9 @@ use Rattle.syntax.specs.declared.token.Symbol.{Symbol}
 use Rattle.syntax.specs.declared.token.Symbol.TheVariants as sign
 use Rattle.syntax.specs.Tokens.{Lexeme, symbol, Spot}
 use Rattle.syntax.specs.Grammar.{Position, Named, Names}
-use Rattle.syntax.specs.Limits.{name_limits, all_names}
-use Rattle.syntax.specs.Spelled.{a_sign, named, names_pieces, parameters_pieces, variables_pieces}
+use Rattle.syntax.specs.Limits.{name_limits}
+use Rattle.syntax.specs.GraphTexts.{all_names, names_pieces, parameters_pieces, variables_pieces}
+use Rattle.syntax.specs.Spelled.{a_sign, named}
 use Rattle.syntax.specs.Tree.{IsName, AreAll}
 use Rattle.syntax.specs.Expected.{Expected, exactly, Move, taken, wrong, look, sign_number, parameters, parameter, variables}
 use Rattle.syntax.specs.NameLists.{NameMayCome}

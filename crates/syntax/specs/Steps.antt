@@ -2,14 +2,15 @@
 use Rattle.std.specs.Prelude.{◌≡◌, ℕ, List, [], ◌∷◌, ◌++◌, drop, length}
 use Rattle.std.specs.List.{flat_map}
 use Rattle.steptree.specs.declared.sheet.TheConstants.{MOST_COLLECTIONS}
-use Rattle.steptree.specs.Tree.{NamedBlock}
+use Rattle.steptree.specs.Simple.{NamedBlock}
 use Rattle.steptree.specs.declared.step.Step.{Step}
 use Rattle.syntax.specs.declared.token.Symbol.TheVariants as sign
 use Rattle.syntax.specs.Tokens.{Spot}
 use Rattle.syntax.specs.Grammar.{Statements, StepText}
-use Rattle.syntax.specs.Limits.{one_more, statements_limits, step_limits, steps_limits}
-use Rattle.syntax.specs.Spelled.{a_word, in_braces, statements_pieces, step_pieces}
-use Rattle.syntax.specs.Tree.{AreAll, AreStatements, IsStep}
+use Rattle.syntax.specs.Limits.{one_more, statements_limits}
+use Rattle.syntax.specs.GraphTexts.{step_limits, steps_limits, step_pieces, IsStep}
+use Rattle.syntax.specs.Spelled.{a_word, in_braces, statements_pieces}
+use Rattle.syntax.specs.Tree.{AreAll, AreStatements}
 use Rattle.syntax.specs.Expected.{Part, Expected, exactly, keyword, statements, step_name, parameters, step_body, steps}
 use Rattle.syntax.specs.Statements.{Own, own_pieces, own_limits, is_own, part_word}
 use Rattle.syntax.specs.Parsed.{Spells, Goes, Reads}

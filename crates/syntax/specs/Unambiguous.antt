@@ -2,7 +2,7 @@
 use Rattle.std.specs.Prelude.{◌≡◌, List}
 use Rattle.syntax.specs.Tokens.{Spot}
 use Rattle.syntax.specs.Grammar.{GraphText}
-use Rattle.syntax.specs.Spelled.{Derives}
+use Rattle.syntax.specs.GraphTexts.{Derives}
 
 -- tokens have at most one derivation
 abbrev pub OneDerivation : Type 0

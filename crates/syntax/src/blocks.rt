@@ -22,7 +22,8 @@ fn assigned<'a>(alloc: Global, cursor: &mut Cursor<'_, 'a>) -> Result<NamedState
     ensures stops { IfErr result (Stops assignment_expected (left cursor.old) (left cursor.new)) }
 {
     let variable = cursor.name()?;
-    assignment(alloc, cursor, variable)
+    let statement = assignment(alloc, cursor, variable)?;
+    Ok(Statement::Simple(statement))
 }
 
 // A statement that only this part has.
@@ -38,11 +39,13 @@ fn own<'a>(
     match part {
         Part::Reading => {
             cursor.keyword(Word::Get)?;
-            get(alloc, cursor)
+            let statement = get(alloc, cursor)?;
+            Ok(Statement::Simple(statement))
         }
         Part::Writing => {
             cursor.keyword(Word::Put)?;
-            put(alloc, cursor)
+            let statement = put(alloc, cursor)?;
+            Ok(Statement::Simple(statement))
         }
     }
 }

@@ -1,4 +1,4 @@
-ghost use Rattle.syntax.specs.Spelled.{GrammarExample};
+ghost use Rattle.syntax.specs.GraphTexts.{GrammarExample};
 ghost use Rattle.syntax.specs.Expected.{ExpectedExample};
 
 /// Worked examples of the grammar: a derivation, and what may come next.

@@ -2,7 +2,10 @@
 ghost use Rattle.std.specs.Prelude.{◌<◌, ◌∷◌, [], length, IfOk, IfErr, OnOk};
 ghost use Rattle.syntax.specs.Expected.{get_rest, put_target};
 ghost use Rattle.syntax.specs.Parsed.{left, Stops};
-ghost use Rattle.syntax.specs.Blocks.{assignment_rest, IsValueRead, IsGetRead, item_rest, IsItemRead, tag_rest, IsTagRead, IsPutRead};
+ghost use Rattle.syntax.specs.declared.token.Symbol.TheVariants as sign;
+ghost use Rattle.syntax.specs.Spelled.{a_sign};
+ghost use Rattle.syntax.specs.Blocks.{assignment_rest, IsValueRead, IsGetRead, IsPutRead};
+ghost use Rattle.syntax.specs.Expected.{item_rest, tag_rest};
 
 use crate::cursor::Cursor;
 use crate::expressions::value;
@@ -10,14 +13,14 @@ use crate::keys::{NamedKey, item, tag};
 use crate::stop::Stop;
 use crate::{Symbol, Token};
 use std::alloc::Global;
-use steptree::{Name, NamedStatement, Statement};
+use steptree::{Name, NamedSimple, Simple};
 
 /// An assignment, after its name.
 pub(crate) fn assignment<'a>(
     alloc: Global,
     cursor: &mut Cursor<'_, 'a>,
     variable: Name<'a>,
-) -> Result<NamedStatement<'a>, Stop>
+) -> Result<NamedSimple<'a>, Stop>
     ensures reads { IfOk result (λ statement. IsValueRead statement variable.entry (left cursor.old) (left cursor.new)) }
     ensures fewer { OnOk result (length (left cursor.new) < length (left cursor.old)) }
     ensures stops { IfErr result (Stops assignment_rest (left cursor.old) (left cursor.new)) }
@@ -25,14 +28,11 @@ pub(crate) fn assignment<'a>(
     cursor.sign(Symbol::Assign)?;
     let value = value(alloc, cursor)?;
     cursor.sign(Symbol::Semicolon)?;
-    Ok(Statement::Assign { variable, value })
+    Ok(Simple::Assign { variable, value })
 }
 
 /// A read of an item, after its `get`.
-pub(crate) fn get<'a>(
-    alloc: Global,
-    cursor: &mut Cursor<'_, 'a>,
-) -> Result<NamedStatement<'a>, Stop>
+pub(crate) fn get<'a>(alloc: Global, cursor: &mut Cursor<'_, 'a>) -> Result<NamedSimple<'a>, Stop>
     ensures reads { IfOk result (λ statement. IsGetRead statement (left cursor.old) (left cursor.new)) }
     ensures fewer { OnOk result (length (left cursor.new) < length (left cursor.old)) }
     ensures stops { IfErr result (Stops get_rest (left cursor.old) (left cursor.new)) }
@@ -46,7 +46,7 @@ pub(crate) fn get<'a>(
         components,
     } = key;
     cursor.sign(Symbol::Semicolon)?;
-    Ok(Statement::Get {
+    Ok(Simple::Get {
         variable,
         collection,
         components,
@@ -54,8 +54,8 @@ pub(crate) fn get<'a>(
 }
 
 // An item and its value, after `put [`.
-fn put_item<'a>(alloc: Global, cursor: &mut Cursor<'_, 'a>) -> Result<NamedStatement<'a>, Stop>
-    ensures reads { IfOk result (λ statement. IsItemRead statement (left cursor.old) (left cursor.new)) }
+fn put_item<'a>(alloc: Global, cursor: &mut Cursor<'_, 'a>) -> Result<NamedSimple<'a>, Stop>
+    ensures reads { IfOk result (λ statement. IsPutRead item_rest (a_sign sign.OpenBracket) statement (left cursor.old) (left cursor.new)) }
     ensures fewer { OnOk result (length (left cursor.new) < length (left cursor.old)) }
     ensures stops { IfErr result (Stops item_rest (left cursor.old) (left cursor.new)) }
 {
@@ -67,7 +67,7 @@ fn put_item<'a>(alloc: Global, cursor: &mut Cursor<'_, 'a>) -> Result<NamedState
     cursor.sign(Symbol::Assign)?;
     let value = value(alloc, cursor)?;
     cursor.sign(Symbol::Semicolon)?;
-    Ok(Statement::PutItem {
+    Ok(Simple::PutItem {
         collection,
         components,
         value,
@@ -75,8 +75,8 @@ fn put_item<'a>(alloc: Global, cursor: &mut Cursor<'_, 'a>) -> Result<NamedState
 }
 
 // A tag, after `put <`.
-fn put_tag<'a>(alloc: Global, cursor: &mut Cursor<'_, 'a>) -> Result<NamedStatement<'a>, Stop>
-    ensures reads { IfOk result (λ statement. IsTagRead statement (left cursor.old) (left cursor.new)) }
+fn put_tag<'a>(alloc: Global, cursor: &mut Cursor<'_, 'a>) -> Result<NamedSimple<'a>, Stop>
+    ensures reads { IfOk result (λ statement. IsPutRead tag_rest (a_sign sign.Less) statement (left cursor.old) (left cursor.new)) }
     ensures fewer { OnOk result (length (left cursor.new) < length (left cursor.old)) }
     ensures stops { IfErr result (Stops tag_rest (left cursor.old) (left cursor.new)) }
 {
@@ -86,18 +86,15 @@ fn put_tag<'a>(alloc: Global, cursor: &mut Cursor<'_, 'a>) -> Result<NamedStatem
         components,
     } = key;
     cursor.sign(Symbol::Semicolon)?;
-    Ok(Statement::PutTag {
+    Ok(Simple::PutTag {
         collection,
         components,
     })
 }
 
 /// A put of an item or a tag, after its `put`.
-pub(crate) fn put<'a>(
-    alloc: Global,
-    cursor: &mut Cursor<'_, 'a>,
-) -> Result<NamedStatement<'a>, Stop>
-    ensures reads { IfOk result (λ statement. IsPutRead statement (left cursor.old) (left cursor.new)) }
+pub(crate) fn put<'a>(alloc: Global, cursor: &mut Cursor<'_, 'a>) -> Result<NamedSimple<'a>, Stop>
+    ensures reads { IfOk result (λ statement. IsPutRead (put_target ∷ []) [] statement (left cursor.old) (left cursor.new)) }
     ensures fewer { OnOk result (length (left cursor.new) < length (left cursor.old)) }
     ensures stops { IfErr result (Stops (put_target ∷ []) (left cursor.old) (left cursor.new)) }
 {

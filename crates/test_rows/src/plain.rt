@@ -2,7 +2,9 @@
 //! what runs bodies.
 use crate::random::Random;
 use std::alloc::{AllocError, Global};
-use steptree::{BUDGET, Block, Body, Components, Expression, Node, Operator, Slot, Statement};
+use steptree::{
+    BUDGET, Block, Body, Components, Expression, Node, Operator, Simple, Slot, Statement,
+};
 use terms::{
     Addr, FaultKind, ItemCollection, Key, MAX_COMPONENTS, MOST_PUTS, Put, Tag, TagCollection,
 };
@@ -218,7 +220,7 @@ fn tell(state: &mut Plain, block: &Block) -> Result<(), Halt> {
 #[cycle(tell)]
 fn tell_one(state: &mut Plain, statement: &Statement) -> Result<(), Halt> {
     match statement {
-        Statement::Assign { variable, value } => state.assign(*variable, value),
+        Statement::Simple(simple) => tell_simple(state, simple),
         Statement::If {
             condition,
             first,
@@ -244,17 +246,24 @@ fn tell_one(state: &mut Plain, statement: &Statement) -> Result<(), Halt> {
             }
             Ok(())
         }
-        Statement::Get {
+    }
+}
+
+// Carries out a statement without blocks.
+fn tell_simple(state: &mut Plain, statement: &Simple) -> Result<(), Halt> {
+    match statement {
+        Simple::Assign { variable, value } => state.assign(*variable, value),
+        Simple::Get {
             variable,
             collection,
             components,
         } => state.get(*variable, *collection, components),
-        Statement::PutItem {
+        Simple::PutItem {
             collection,
             components,
             value,
         } => state.put_item(*collection, components, value),
-        Statement::PutTag {
+        Simple::PutTag {
             collection,
             components,
         } => state.put_tag(*collection, components),

@@ -1,12 +1,12 @@
 ghost use Rattle.std.specs.Prelude.{◌≡◌, ◌<◌, length, suc};
-ghost use Rattle.graph.specs.Canonical.{line, assignment_line, condition_line, range_line, get_line, put_item_line, put_tag_line, choice_text, loop_text, block_text};
+ghost use Rattle.graph.specs.Canonical.{line, assignment_line, condition_line, range_line, get_line, put_item_line, put_tag_line, simple_line, choice_text, loop_text, block_text};
 ghost use Rattle.graph.specs.Pieces.{Writes, WritesStatement, in_words, bounds_text};
 
 use super::expressions::{put_expression, put_item, put_tag};
 use super::pieces::{put, put_indentation};
 use super::words::Words;
 use std::alloc::AllocError;
-use steptree::{Block, Components, Expression, Slot, Statement};
+use steptree::{Block, Components, Expression, Simple, Slot, Statement};
 use terms::{ItemCollection, TagCollection};
 
 /// An assignment.
@@ -144,6 +144,34 @@ fn put_tag_put(
     put(text, &[";\n"])
 }
 
+/// A statement without blocks.
+fn put_simple(
+    text: &mut Vec<u8>,
+    words: &Words<'_>,
+    level: usize,
+    statement: &Simple,
+) -> Result<(), AllocError>
+    ensures { Writes result text.old text.new (in_words words.now simple_line level statement.now) }
+{
+    match statement {
+        Simple::Assign { variable, value } => put_assignment(text, words, level, *variable, value),
+        Simple::Get {
+            variable,
+            collection,
+            components,
+        } => put_get(text, words, level, *variable, *collection, components),
+        Simple::PutItem {
+            collection,
+            components,
+            value,
+        } => put_item_put(text, words, level, *collection, components, value),
+        Simple::PutTag {
+            collection,
+            components,
+        } => put_tag_put(text, words, level, *collection, components),
+    }
+}
+
 /// One level more than that of a line in the text; the indentation of that line has at least `level` bytes.
 fn deeper(text: &[u8], level: usize) -> usize
     requires { level < length text.now }
@@ -205,9 +233,7 @@ fn put_statement(
     ensures { WritesStatement result text.old text.new words.now level statement.now }
 {
     match statement {
-        Statement::Assign { variable, value } => {
-            put_assignment(text, words, level, *variable, value)
-        }
+        Statement::Simple(simple) => put_simple(text, words, level, simple),
         Statement::If {
             condition,
             first,
@@ -219,20 +245,6 @@ fn put_statement(
             to,
             block,
         } => put_loop(text, words, level, *variable, from, to, block),
-        Statement::Get {
-            variable,
-            collection,
-            components,
-        } => put_get(text, words, level, *variable, *collection, components),
-        Statement::PutItem {
-            collection,
-            components,
-            value,
-        } => put_item_put(text, words, level, *collection, components, value),
-        Statement::PutTag {
-            collection,
-            components,
-        } => put_tag_put(text, words, level, *collection, components),
     }
 }
 

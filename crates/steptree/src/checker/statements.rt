@@ -1,38 +1,21 @@
 ghost use Rattle.std.specs.Prelude.{◌≤◌, length, IfOk};
-ghost use Rattle.steptree.specs.Tree.{End, If, For, Get, PutItem, PutTag};
+ghost use Rattle.steptree.specs.Tree.{End, If, For};
 ghost use Rattle.steptree.specs.declared.slot.TheConstants.{MOST_NAMES};
 ghost use Rattle.steptree.specs.CheckFaults.{block_faults};
 ghost use Rattle.steptree.specs.Limits.{AreFew};
 ghost use Rattle.steptree.specs.Resolved.{IsBlock};
 ghost use Rattle.steptree.specs.Sheet.{KeepsTo};
-ghost use Rattle.steptree.specs.Statements.{texts, Reports, ReportsAssignment, ReportsChoice, ReportsLoop, ReportsGet, ReportsItemPut, ReportsTagPut, IsStatement, IsAssignment};
+ghost use Rattle.steptree.specs.Statements.{texts, Reports, ReportsChoice, ReportsLoop, ReportsSimple, IsStatement, IsAllowedSimple};
 ghost use Rattle.steptree.specs.SeenBlocks.{stated};
 
 use super::expressions::{resolve_expression, resolve_key};
 use super::names::slot;
 use crate::{
-    Block, CheckError, CheckFault, Name, NamedBlock, NamedExpression, NamedStatement, Sheet,
-    Statement,
+    Block, CheckError, CheckFault, Name, NamedBlock, NamedExpression, NamedSimple, NamedStatement,
+    Sheet, Simple, Statement,
 };
 use std::alloc::Global;
 use terms::{ItemCollection, TagCollection};
-
-/// Resolves an assignment.
-fn assign(
-    alloc: Global,
-    names: &[Name<'_>],
-    variable: &Name<'_>,
-    value: &NamedExpression<'_>,
-) -> Result<Statement, CheckFault>
-    requires { length names.now ≤ MOST_NAMES }
-    ensures statement { IfOk result (IsAssignment (texts names.now) variable.now value.now) }
-    ensures faults { ReportsAssignment (texts names.now) variable.now value.now result }
-{
-    Ok(Statement::Assign {
-        variable: slot(names, variable)?,
-        value: resolve_expression(alloc, names, value)?,
-    })
-}
 
 /// Resolves a choice between two blocks.
 #[cycle(blocks)]
@@ -89,98 +72,87 @@ fn repeat(
     })
 }
 
-/// Resolves a read of an item.
-fn get(
+/// Resolves a simple statement.
+fn resolve_simple(
     alloc: Global,
     names: &[Name<'_>],
     sheet: &Sheet<'_>,
-    variable: &Name<'_>,
-    item: &Name<'_>,
-    components: &Vec<NamedExpression<'_>>,
-) -> Result<Statement, CheckFault>
-    requires named { length names.now ≤ MOST_NAMES }
-    requires items { AreFew sheet.now.items }
-    ensures statement { IfOk result (IsStatement (texts names.now) sheet.now (Get variable.now item.now components.now)) }
-    ensures faults { ReportsGet (texts names.now) sheet.now variable.now item.now components.now.items result }
-{
-    let variable = slot(names, variable)?;
-    let error = CheckError::UndeclaredRead;
-    let (number, components) = resolve_key(
-        alloc,
-        names,
-        sheet.items,
-        sheet.reads,
-        error,
-        item,
-        components,
-    )?;
-    Ok(Statement::Get {
-        variable,
-        collection: ItemCollection(number),
-        components,
-    })
-}
-
-/// Resolves a put of an item.
-fn put_item(
-    alloc: Global,
-    names: &[Name<'_>],
-    sheet: &Sheet<'_>,
-    item: &Name<'_>,
-    components: &Vec<NamedExpression<'_>>,
-    value: &NamedExpression<'_>,
-) -> Result<Statement, CheckFault>
-    requires named { length names.now ≤ MOST_NAMES }
-    requires items { AreFew sheet.now.items }
-    ensures statement { IfOk result (IsStatement (texts names.now) sheet.now (PutItem item.now components.now value.now)) }
-    ensures faults { ReportsItemPut (texts names.now) sheet.now item.now components.now.items value.now result }
-{
-    let error = CheckError::UndeclaredPut;
-    let (number, components) = resolve_key(
-        alloc,
-        names,
-        sheet.items,
-        sheet.item_puts,
-        error,
-        item,
-        components,
-    )?;
-    let value = resolve_expression(alloc, names, value)?;
-    Ok(Statement::PutItem {
-        collection: ItemCollection(number),
-        components,
-        value,
-    })
-}
-
-/// Resolves a put of a tag.
-fn put_tag(
-    alloc: Global,
-    names: &[Name<'_>],
-    sheet: &Sheet<'_>,
-    tag: &Name<'_>,
-    components: &Vec<NamedExpression<'_>>,
-) -> Result<Statement, CheckFault>
+    statement: &NamedSimple<'_>,
+) -> Result<Simple, CheckFault>
     requires named { length names.now ≤ MOST_NAMES }
     requires items { AreFew sheet.now.items }
     requires tags { AreFew sheet.now.tags }
-    ensures statement { IfOk result (IsStatement (texts names.now) sheet.now (PutTag tag.now components.now)) }
-    ensures faults { ReportsTagPut (texts names.now) sheet.now tag.now components.now.items result }
+    ensures simple { IfOk result (IsAllowedSimple (texts names.now) sheet.now statement.now) }
+    ensures faults { ReportsSimple (texts names.now) sheet.now statement.now result }
 {
-    let error = CheckError::UndeclaredPut;
-    let (number, components) = resolve_key(
-        alloc,
-        names,
-        sheet.tags,
-        sheet.tag_puts,
-        error,
-        tag,
-        components,
-    )?;
-    Ok(Statement::PutTag {
-        collection: TagCollection(number),
-        components,
-    })
+    match statement {
+        Simple::Assign { variable, value } => Ok(Simple::Assign {
+            variable: slot(names, variable)?,
+            value: resolve_expression(alloc, names, value)?,
+        }),
+        Simple::Get {
+            variable,
+            collection,
+            components,
+        } => {
+            let variable = slot(names, variable)?;
+            let error = CheckError::UndeclaredRead;
+            let (number, components) = resolve_key(
+                alloc,
+                names,
+                sheet.items,
+                sheet.reads,
+                error,
+                collection,
+                components,
+            )?;
+            Ok(Simple::Get {
+                variable,
+                collection: ItemCollection(number),
+                components,
+            })
+        }
+        Simple::PutItem {
+            collection,
+            components,
+            value,
+        } => {
+            let error = CheckError::UndeclaredPut;
+            let (number, components) = resolve_key(
+                alloc,
+                names,
+                sheet.items,
+                sheet.item_puts,
+                error,
+                collection,
+                components,
+            )?;
+            Ok(Simple::PutItem {
+                collection: ItemCollection(number),
+                components,
+                value: resolve_expression(alloc, names, value)?,
+            })
+        }
+        Simple::PutTag {
+            collection,
+            components,
+        } => {
+            let error = CheckError::UndeclaredPut;
+            let (number, components) = resolve_key(
+                alloc,
+                names,
+                sheet.tags,
+                sheet.tag_puts,
+                error,
+                collection,
+                components,
+            )?;
+            Ok(Simple::PutTag {
+                collection: TagCollection(number),
+                components,
+            })
+        }
+    }
 }
 
 /// Resolves a statement.
@@ -198,7 +170,9 @@ fn resolve_statement(
     ensures faults { Reports (block_faults (texts names.now) sheet.now (stated statement.now End)) result }
 {
     match statement {
-        Statement::Assign { variable, value } => assign(alloc, names, variable, value),
+        Statement::Simple(simple) => Ok(Statement::Simple(resolve_simple(
+            alloc, names, sheet, simple,
+        )?)),
         Statement::If {
             condition,
             first,
@@ -210,20 +184,6 @@ fn resolve_statement(
             to,
             block,
         } => repeat(alloc, names, sheet, variable, from, to, block),
-        Statement::Get {
-            variable,
-            collection,
-            components,
-        } => get(alloc, names, sheet, variable, collection, components),
-        Statement::PutItem {
-            collection,
-            components,
-            value,
-        } => put_item(alloc, names, sheet, collection, components, value),
-        Statement::PutTag {
-            collection,
-            components,
-        } => put_tag(alloc, names, sheet, collection, components),
     }
 }
 

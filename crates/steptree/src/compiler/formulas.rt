@@ -2,7 +2,7 @@ ghost use Rattle.std.specs.Prelude.{◌≡◌, ◌<◌, IfOk, IfSome};
 ghost use Rattle.steptree.specs.Tree.{Number, Variable, Operation, expression_size};
 ghost use Rattle.steptree.specs.Executed.{operand_of, pair_of, linked, chained, expression_of};
 
-use crate::{Components, Expression, Formula, Link, Node, Operand, Operator, Pair, Slot};
+use crate::{Expression, Formula, Link, Node, Operand, Operator, Pair, Slot};
 use std::alloc::{AllocError, Global};
 
 /// The form in which an expression is evaluated.
@@ -14,7 +14,7 @@ pub(crate) fn formula(alloc: Global, expression: &Expression) -> Result<Formula,
     }
     match chain(alloc, expression)? {
         Some((first, links)) => Ok(Formula::Chain(first, links)),
-        None => Ok(Formula::Deep(copied(alloc, expression)?)),
+        None => Ok(Formula::Deep(expression.copied(alloc)?)),
     }
 }
 
@@ -205,48 +205,4 @@ fn nested_then(expression: &Expression) -> Option<Formula>
         }
         _ => None,
     }
-}
-
-/// The same expression in memory of its own.
-pub(crate) fn copied(alloc: Global, expression: &Expression) -> Result<Expression, AllocError>
-    ensures { IfOk result (λ copy. copy ≡ expression.now) }
-{
-    match &expression.node {
-        Node::Number(number) => Ok(Expression {
-            node: Node::Number(*number),
-        }),
-        Node::Variable(slot) => Ok(Expression {
-            node: Node::Variable(*slot),
-        }),
-        Node::Negation(operand) => {
-            let operand = copied(alloc, operand)?;
-            Ok(Expression {
-                node: Node::Negation(Box::new(alloc, operand)?),
-            })
-        }
-        Node::Operation(operator, operands) => {
-            let left = copied(alloc, &operands.0)?;
-            let right = copied(alloc, &operands.1)?;
-            Ok(Expression {
-                node: Node::Operation(*operator, Box::new(alloc, (left, right))?),
-            })
-        }
-    }
-}
-
-/// The same components in memory of their own.
-pub(crate) fn copied_components(
-    alloc: Global,
-    components: &Components,
-) -> Result<Components, AllocError>
-    ensures { IfOk result (λ copy. copy ≡ components.now) }
-{
-    let expressions = components.as_slice();
-    let mut copies = Vec::new(alloc);
-    for expression in expressions {
-        let copy = copied(alloc, expression)?;
-        copies.reserve(1)?;
-        copies.push_reserved(copy);
-    }
-    Ok(Components::new(copies))
 }

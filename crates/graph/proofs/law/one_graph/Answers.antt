@@ -1,4 +1,4 @@
-use Rattle.graph.proofs.AlikeTrees.{graph_same, one_reading}
+use Rattle.graph.proofs.SameGraphs.{graph_same, one_reading}
 use Rattle.graph.proofs.law.one_graph.Goals as goal
 
 pub returns : goal.returns

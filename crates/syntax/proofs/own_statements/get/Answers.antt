@@ -9,6 +9,6 @@ returns-clause-reads c =
     record {
       get = record { variable = named_of c.in_ok-variable.variable; item = key.key };
       reads = c.in_ok-variable.ensures.reads ⨟ (c.in_ok-sign.ensures.reads ⨟ (c.in_ok-sign-2.ensures.reads ⨟ (key.reads ⨟ c.in_ok-sign-3.ensures.reads)));
-      is = λ rest. ((refl, refl), key.is, refl);
+      is = ((refl, refl), key.is);
       within = rw c.in_ok-variable.ensures.within key.within;
     }

@@ -2,7 +2,9 @@ use Rattle.std.proofs.Common.{◌≡◌, ◌∷◌, [], length, refl, subst, rul
 use Rattle.syntax.specs.declared.token.Symbol.TheVariants as sign
 use Rattle.syntax.specs.declared.token.Word.TheVariants as kept
 use Rattle.syntax.specs.Grammar.{StepText}
-use Rattle.syntax.specs.Spelled.{a_sign, a_word, in_braces, statements_pieces, get_pieces, put_pieces, variables_pieces}
+use Rattle.syntax.specs.Spelled.{a_sign, a_word, in_braces, statements_pieces}
+use Rattle.syntax.specs.OwnStatements.{get_pieces, put_pieces}
+use Rattle.syntax.specs.GraphTexts.{variables_pieces}
 use Rattle.syntax.specs.Expected.{step_body, variables as some_variables}
 use Rattle.syntax.specs.Parsed.{left, named_of, Reads}
 use Rattle.syntax.specs.StepNames.{AreVariables}

@@ -5,7 +5,7 @@ use Rattle.std.specs.Ordering.{int_eq}
 use Rattle.steptree.specs.declared.body.TheConstants.{BUDGET}
 use Rattle.steptree.specs.declared.code.Instruction.TheVariants as instruction
 use Rattle.steptree.specs.Compiled.{Stands}
-use Rattle.steptree.specs.Executed.{executed}
+use Rattle.steptree.specs.Executed.{expression_of, executed}
 use Rattle.steplang.specs.declared.machine.Progress.{Progress}
 use Rattle.steplang.specs.declared.machine.Step.TheVariants.{Failed, Ended}
 use Rattle.terms.specs.declared.fault.FaultKind.TheVariants.{Budget}
@@ -14,7 +14,7 @@ use Rattle.steplang.specs.Machine.{state_of, open_loops, outcome_from}
 use Rattle.steplang.proofs.Counted.{ended, made, overspent}
 use Rattle.steplang.proofs.Leads.{stopped}
 use Rattle.steplang.proofs.Looped.{left_one, none_open, over, spent, turned_on}
-use Rattle.steplang.proofs.Valued.{given_ok, given_err}
+use Rattle.steplang.proofs.Valued.{given_ok, given_err, assigns_value, assigns_fault}
 use Rattle.steplang.proofs.machine.Machine.go.Goals as goal
 
 pub returns-in_default-clause-leads : goal.returns-in_default-clause-leads
@@ -88,7 +88,7 @@ steps-preserved-in-Ok c =
     record {
       same = λ reads. c.steps.invariant.same reads
           ∙ made old before c.count-in-Assign.new.self c.count-in-Assign.result c.count-in-Assign.ensures.counted one there (λ state onward out. refl) c.if-not-count-2.false c.count-in-Assign.ensures.one reads
-          ∙ given_ok _ c.in-Ok.value _ _ (sym c.in-Ok.ensures)
+          ∙ assigns_value c.in-Assign.variable (expression_of c.in-Assign.value) c.in-Ok.value _ _ (sym c.in-Ok.ensures)
           ∙ search rules;
       code = c.steps.invariant.code;
     }
@@ -102,7 +102,7 @@ returns-in-Err-clause-leads c =
     stopped (outcome_from c.args.self.now c.args.self.now.progress) old c.stop-in-Err.new.self c.count-in-Assign.new.self (Failed c.in-Err.kind) c.stop-in-Err.result c.stop-in-Err.ensures
     (λ reads. c.steps.invariant.same reads
     ∙ made old before c.count-in-Assign.new.self c.count-in-Assign.result c.count-in-Assign.ensures.counted one there (λ state onward out. refl) c.if-not-count-2.false c.count-in-Assign.ensures.one reads
-    ∙ given_err _ c.in-Err.kind _ _ (sym c.in-Err.ensures))
+    ∙ assigns_fault c.in-Assign.variable (expression_of c.in-Assign.value) c.in-Err.kind _ _ (sym c.in-Err.ensures))
 
 pub returns-then-not-count-3-clause-leads : goal.returns-then-not-count-3-clause-leads
 returns-then-not-count-3-clause-leads c =

@@ -3,7 +3,7 @@ use Rattle.std.specs.Prelude.{Some}
 use Rattle.steptree.specs.declared.code.Instruction.TheVariants as instruction
 use Rattle.steptree.specs.Compiled.{Stands}
 use Rattle.steplang.proofs.Counted.{ended, made, overspent}
-use Rattle.steplang.proofs.Leads.{leads, ok_leads}
+use Rattle.steplang.proofs.Leads.{ok_leads}
 use Rattle.steplang.proofs.machine.Machine.step.Goals as goal
 
 pub returns-in-End-clause-leads : goal.returns-in-End-clause-leads
@@ -25,36 +25,12 @@ returns-else-not-count-clause-leads c =
 
 pub returns-then-not-count-2-clause-leads : goal.returns-then-not-count-2-clause-leads
 returns-then-not-count-2-clause-leads c =
-    let one = instruction.Get c.in-Get.variable c.in-Get.collection c.in-Get.components c.in-Get.next in
-    let there : Stands c.args.self.now.code.now c.args.progress.now.at one = c.requires.stands ∙ ap Some c.in-Get.is in
-    overspent c.args.self.now c.args.progress.now c.count-in-Get.new.self c.count-in-Get.result c.count-in-Get.ensures.counted one there (λ state onward out. refl) c.if-not-count-2.true
+    let one = instruction.Do c.in-Do.statement c.in-Do.next in
+    let there : Stands c.args.self.now.code.now c.args.progress.now.at one = c.requires.stands ∙ ap Some c.in-Do.is in
+    overspent c.args.self.now c.args.progress.now c.count-in-Do.new.self c.count-in-Do.result c.count-in-Do.ensures.counted one there (λ state onward out. refl) c.if-not-count-2.true
 
 pub returns-else-not-count-2-clause-leads : goal.returns-else-not-count-2-clause-leads
 returns-else-not-count-2-clause-leads c =
-    let one = instruction.Get c.in-Get.variable c.in-Get.collection c.in-Get.components c.in-Get.next in
-    let there : Stands c.args.self.now.code.now c.args.progress.now.at one = c.requires.stands ∙ ap Some c.in-Get.is in
-    leads _ _ (made c.args.self.now c.args.progress.now c.count-in-Get.new.self c.count-in-Get.result c.count-in-Get.ensures.counted one there (λ state onward out. refl) c.if-not-count-2.false c.count-in-Get.ensures.one) _ _ c.get.result c.get.ensures.leads
-
-pub returns-then-not-count-3-clause-leads : goal.returns-then-not-count-3-clause-leads
-returns-then-not-count-3-clause-leads c =
-    let one = instruction.PutItem c.in-PutItem.collection c.in-PutItem.components c.in-PutItem.value c.in-PutItem.next in
-    let there : Stands c.args.self.now.code.now c.args.progress.now.at one = c.requires.stands ∙ ap Some c.in-PutItem.is in
-    overspent c.args.self.now c.args.progress.now c.count-in-PutItem.new.self c.count-in-PutItem.result c.count-in-PutItem.ensures.counted one there (λ state onward out. refl) c.if-not-count-3.true
-
-pub returns-else-not-count-3-clause-leads : goal.returns-else-not-count-3-clause-leads
-returns-else-not-count-3-clause-leads c =
-    let one = instruction.PutItem c.in-PutItem.collection c.in-PutItem.components c.in-PutItem.value c.in-PutItem.next in
-    let there : Stands c.args.self.now.code.now c.args.progress.now.at one = c.requires.stands ∙ ap Some c.in-PutItem.is in
-    ok_leads _ _ (made c.args.self.now c.args.progress.now c.count-in-PutItem.new.self c.count-in-PutItem.result c.count-in-PutItem.ensures.counted one there (λ state onward out. refl) c.if-not-count-3.false c.count-in-PutItem.ensures.one) _ _ c.put_item.result c.put_item.ensures.leads
-
-pub returns-then-not-count-4-clause-leads : goal.returns-then-not-count-4-clause-leads
-returns-then-not-count-4-clause-leads c =
-    let one = instruction.PutTag c.in-PutTag.collection c.in-PutTag.components c.in-PutTag.next in
-    let there : Stands c.args.self.now.code.now c.args.progress.now.at one = c.requires.stands ∙ ap Some c.in-PutTag.is in
-    overspent c.args.self.now c.args.progress.now c.count-in-PutTag.new.self c.count-in-PutTag.result c.count-in-PutTag.ensures.counted one there (λ state onward out. refl) c.if-not-count-4.true
-
-pub returns-else-not-count-4-clause-leads : goal.returns-else-not-count-4-clause-leads
-returns-else-not-count-4-clause-leads c =
-    let one = instruction.PutTag c.in-PutTag.collection c.in-PutTag.components c.in-PutTag.next in
-    let there : Stands c.args.self.now.code.now c.args.progress.now.at one = c.requires.stands ∙ ap Some c.in-PutTag.is in
-    ok_leads _ _ (made c.args.self.now c.args.progress.now c.count-in-PutTag.new.self c.count-in-PutTag.result c.count-in-PutTag.ensures.counted one there (λ state onward out. refl) c.if-not-count-4.false c.count-in-PutTag.ensures.one) _ _ c.put_tag.result c.put_tag.ensures.leads
+    let one = instruction.Do c.in-Do.statement c.in-Do.next in
+    let there : Stands c.args.self.now.code.now c.args.progress.now.at one = c.requires.stands ∙ ap Some c.in-Do.is in
+    ok_leads _ _ (made c.args.self.now c.args.progress.now c.count-in-Do.new.self c.count-in-Do.result c.count-in-Do.ensures.counted one there (λ state onward out. refl) c.if-not-count-2.false c.count-in-Do.ensures.one) _ _ c.simply.result c.simply.ensures.leads

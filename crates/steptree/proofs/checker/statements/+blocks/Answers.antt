@@ -1,5 +1,4 @@
 use Rattle.std.proofs.Common.{◌≡◌, List, sym, ap, ◌∙◌, arith}
-use Rattle.std.proofs.lemmas.Result.{IfOk-weaker}
 use Rattle.steptree.specs.Tree.{block_size}
 use Rattle.steptree.specs.SeenBlocks.{NamedStatement, block_seen}
 use Rattle.steptree.specs.Statements.{texts}
@@ -7,10 +6,6 @@ use Rattle.steptree.proofs.FirstFaults.{passed_on}
 use Rattle.steptree.specs.BlocksFall.{no_larger}
 use Rattle.steptree.proofs.Statements.{one_more, first_here}
 use Rattle.steptree.proofs.checker.statements.+blocks.Goals as goal
-
-pub resolve_statement-returns-in-Assign-clause-statement : goal.resolve_statement-returns-in-Assign-clause-statement
-resolve_statement-returns-in-Assign-clause-statement t c =
-    rw c.in-Assign.is (IfOk-weaker c.assign.result _ _ (λ first are. are c.args.sheet.now) c.assign.ensures.statement)
 
 pub resolve_block-resolve_statement-requires : goal.resolve_block-resolve_statement-requires
 resolve_block-resolve_statement-requires t c =
