@@ -1,5 +1,5 @@
 -- Statements of one derivation differ only in where their parts are in memory: all that they stand for is one block.
-use Rattle.std.proofs.Common.{◌≡◌, List, [], ◌∷◌, sym, ◌∙◌, ℕ, Some, refl, ap, ◌++◌, arith}
+use Rattle.std.proofs.Common.{◌≡◌, List, [], ◌∷◌, sym, ◌∙◌, ℕ, Some, refl, ap, arith}
 use Rattle.std.specs.Prelude.{⊤}
 use Rattle.steptree.specs.declared.step.Name.{Name}
 use Rattle.steptree.specs.Tree as tree

@@ -1,8 +1,7 @@
 -- The statements that only one part of a step has, reads of items and puts: two of one derivation are alike, what is read can be
 -- written, and what is printed reads back.
-use Rattle.std.proofs.Common.{◌≡◌, List, [], ◌∷◌, ◌∙◌, ℕ, refl, ap, ◌++◌, map, ◌<◌, ◌≤◌, Bool, length, get_or, ◌+◌, codes, ◌≢◌, ◌-◌}
-use Rattle.std.specs.Prelude.{⊤}
-use Rattle.steptree.specs.Simple.{NumberedSimple, NamedSimple, Block, NamedBlock, uses_of}
+use Rattle.std.proofs.Common.{◌≡◌, List, [], ◌∙◌, ℕ, refl, ap, ◌++◌, map, Bool, length, get_or, ◌+◌, codes, ◌-◌}
+use Rattle.steptree.specs.Simple.{NumberedSimple, NamedSimple, Block, NamedBlock, AllUses}
 use Rattle.syntax.specs.Grammar.{sum_alone, prod_alone, unary_alone, variable, own, Statements, Get, Put, put_item, put_tag}
 use Rattle.syntax.specs.Tree.{AreStatements}
 use Rattle.syntax.specs.OwnStatements.{IsGet, IsPut, get_pieces, put_pieces, get_limits, put_limits}
@@ -11,7 +10,6 @@ use Rattle.steptree.specs.Resolved.{IsSimple, IsBlock}
 use Rattle.steptree.specs.Nameable.{Nameable}
 use Rattle.graph.specs.Graph.{Step, Graph, sheet_of}
 use Rattle.graph.proofs.Lists.{each_at, no_both}
-use Rattle.std.specs.List.{AllByRecursion}
 use Rattle.steptree.specs.Sheet.{IsAllowed, AllowsAll, KeepsTo}
 use Rattle.graph.specs.Textual.{IsGraphName, AreNames, IsReadUse, IsWriteUse, IsReadBlock, IsWriteBlock}
 use Rattle.graph.proofs.PrintedTokens.{found_at, behind, and, printed_name, no_name_limit, inside, lined, word_first, semicolon, equals, inside_brackets, inside_angles}
@@ -25,7 +23,7 @@ use Rattle.graph.proofs.PrintedValues.{name_of}
 use Rattle.steptree.specs.declared.simple.Simple.TheVariants as simple
 use Rattle.graph.proofs.Faultless.{first_empty, second_empty}
 use Rattle.graph.proofs.AlikeTrees.{AlikeSimple, same_name, expr_alike, key_alike}
-use Rattle.graph.proofs.ReadBlocks.{AreSound, AreUses, front, rear, slot_within, expression_read, key_read, statements_read}
+use Rattle.graph.proofs.ReadBlocks.{AreSound, front, rear, slot_within, expression_read, key_read, statements_read}
 use Rattle.graph.proofs.PrintedBlocks.{Known, SimplePrinted, BlockPrinted, assign_printed, block_printed}
 
 -- ---- two of one derivation
@@ -42,13 +40,13 @@ put_alike _ _ _ a b = absurd (assumption)
 -- ---- what is read
 
 module _ (names : List Text) (sheet : Nameable) where
-  get_read : (get : Get) (statement : NamedSimple) (b : NumberedSimple) → AreSound (get_pieces get) → get_limits get ≡ [] → IsGet get statement → IsSimple names sheet statement b → AreUses (IsReadUse (length names)) b
+  get_read : (get : Get) (statement : NamedSimple) (b : NumberedSimple) → AreSound (get_pieces get) → get_limits get ≡ [] → IsGet get statement → IsSimple names sheet statement b → AllUses (IsReadUse (length names)) b
   get_read get (simple.Get called named key) (simple.Get slot collection es) sound none is means =
       let parts : AreSound (sums_pieces get.item.components ++ a_sign sign.CloseBracket ++ a_sign sign.Semicolon) = sound.1.1.1.1.1 in
       (slot_within names called slot means.0, (key_read names sheet sheet.items get.item named key.items collection.0 es (search (front, parts)) (search second_empty) is.1 means.1, tt))
   get_read _ _ _ _ _ is means = absurd (assumption)
 
-  put_read : (put : Put) (statement : NamedSimple) (b : NumberedSimple) → AreSound (put_pieces put) → put_limits put ≡ [] → IsPut put statement → IsSimple names sheet statement b → AreUses (IsWriteUse (length names)) b
+  put_read : (put : Put) (statement : NamedSimple) (b : NumberedSimple) → AreSound (put_pieces put) → put_limits put ≡ [] → IsPut put statement → IsSimple names sheet statement b → AllUses (IsWriteUse (length names)) b
   put_read (put_item item value) (simple.PutItem named key it) (simple.PutItem collection es e) sound none is means =
       let parts : AreSound (sums_pieces item.components ++ a_sign sign.CloseBracket ++ a_sign sign.Assign ++ expr_pieces value ++ a_sign sign.Semicolon) = sound.1.1.1 in (
         key_read names sheet sheet.items item named key.items collection.0 es (search (front, parts)) (search first_empty) is.0 means.0,
@@ -76,7 +74,7 @@ module _ (g : Graph) (step : Step) (names : List Text) (are : AreNames names)
   sheet = sheet_of g step
 
   -- a statement of a read block
-  get_printed : (statement : NumberedSimple) (level around place : ℕ) → AllByRecursion (IsReadUse (length names)) (uses_of statement) → AllowsAll sheet statement
+  get_printed : (statement : NumberedSimple) (level around place : ℕ) → AllUses (IsReadUse (length names)) statement → AllowsAll sheet statement
       → SimplePrinted get_pieces get_limits IsGet g names sheet level around place statement
   get_printed (simple.Assign slot value) level around place is keeps = assign_printed get_pieces get_limits IsGet g names sheet are level around place slot value is.0 is.1.0
   get_printed (simple.Get slot collection components) level around place is keeps =
@@ -97,7 +95,7 @@ module _ (g : Graph) (step : Step) (names : List Text) (are : AreNames names)
   get_printed (simple.PutTag collection components) level around place is keeps = absurd is.0
 
   -- a statement of a write block
-  put_printed : (statement : NumberedSimple) (level around place : ℕ) → AllByRecursion (IsWriteUse (length names)) (uses_of statement) → AllowsAll sheet statement
+  put_printed : (statement : NumberedSimple) (level around place : ℕ) → AllUses (IsWriteUse (length names)) statement → AllowsAll sheet statement
       → SimplePrinted put_pieces put_limits IsPut g names sheet level around place statement
   put_printed (simple.Assign slot value) level around place is keeps = assign_printed put_pieces put_limits IsPut g names sheet are level around place slot value is.0 is.1.0
   put_printed (simple.Get slot collection components) level around place is keeps = absurd is.1.0

@@ -1,6 +1,5 @@
 -- The read block and the write block of a step, as they are printed.
-use Rattle.std.proofs.Common.{◌≡◌, ℕ, ◌<◌, ◌≤◌, Bool, List, [], length, get_or, Some, ap, arith, suc, ◌+◌, ◌++◌, codes, refl, append_assoc, map, ◌∙◌, ◌∷◌}
-use Rattle.std.specs.List.{AllByRecursion}
+use Rattle.std.proofs.Common.{◌≡◌, ℕ, ◌<◌, ◌≤◌, Bool, List, [], length, get_or, Some, ap, arith, suc, ◌+◌, ◌++◌, codes, refl, append_assoc, map, ◌∷◌}
 use Rattle.std.proofs.lemmas.List.{length-map}
 use Rattle.std.proofs.lemmas.Option.{slice_get_within, get_or_from_slice_get}
 use Rattle.terms.specs.declared.key.TheConstants.{MAX_COMPONENTS}
@@ -12,7 +11,7 @@ use Rattle.graph.specs.Textual.{IsGraphName, AreNames, IsTextExpression, IsTextB
 use Rattle.graph.proofs.PrintedTokens.{found_at, never, Printed, behind, and, nothing, printed_name, no_name_limit, no_more_limit, inside, lined, word_first, semicolon, close_brace, open_brace, equals, dots, among, otherwise, in_order, inside_rounds}
 use Rattle.graph.proofs.Lists.{each_at, no_both}
 use Rattle.steptree.specs.Tree.{Expression, End, Do, If, For}
-use Rattle.steptree.specs.Simple.{NumberedSimple, NamedSimple, Block, NamedBlock, NumberedUse, uses_of}
+use Rattle.steptree.specs.Simple.{NumberedSimple, NamedSimple, Block, NamedBlock, NumberedUse, AllUses}
 use Rattle.steptree.specs.declared.simple.Simple.TheVariants.{Assign}
 use Rattle.steptree.specs.Resolved.{IsSimple, IsBlock}
 use Rattle.syntax.specs.declared.limits.TheConstants.{MOST_BRACES}
@@ -178,7 +177,7 @@ module _ {B : Type 0} (own_pieces : B → List Piece) (own_limits : B → List P
     -- ---- blocks, if each simple statement can be printed that uses only what it may
 
     module _ (IsUse : NumberedUse → Type 0)
-        (printed_alone : (statement : NumberedSimple) (level around place : ℕ) → AllByRecursion IsUse (uses_of statement) → AllowsAll sheet statement → SimplePrinted level around place statement) where
+        (printed_alone : (statement : NumberedSimple) (level around place : ℕ) → AllUses IsUse statement → AllowsAll sheet statement → SimplePrinted level around place statement) where
       pub block_printed : (block : Block) (level around place : ℕ) → IsTextBlock IsUse (length names) around block → KeepsTo sheet block → BlockPrinted level around place block
       block_printed End level around place is keeps = end_printed level around place
       block_printed (Do statement rest) level around place is keeps =

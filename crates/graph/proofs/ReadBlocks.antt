@@ -9,7 +9,7 @@ use Rattle.syntax.specs.Grammar.{Position, Named, Expr, sum_alone, compared, Sum
 use Rattle.syntax.specs.Spelled.{Piece, plain, at, IsPiece, ArePieces, a_sign, expr_pieces, sum_pieces, prod_pieces, unary_pieces, sums_pieces, statement_pieces, statements_pieces}
 use Rattle.std.proofs.lemmas.Option.{slice_get_within}
 use Rattle.steptree.specs.Tree.{Expression, NamedExpression, Number, Variable, Negation, Operation, End, Do, If, For}
-use Rattle.steptree.specs.Simple.{NumberedSimple, NamedSimple, Block, NamedBlock, NumberedUse, Target, Value, uses_of}
+use Rattle.steptree.specs.Simple.{NumberedSimple, NamedSimple, Block, NamedBlock, NumberedUse, Target, Value, AllUses}
 use Rattle.steptree.specs.declared.simple.Simple.TheVariants as simple
 use Rattle.steptree.specs.Tree as tree
 use Rattle.steptree.specs.declared.step.Name.{Name}
@@ -150,15 +150,12 @@ module _ (names : List Text) where
 abbrev Rests : (NumberedUse → Type 0) → List Text → Nameable → ℕ → (NamedBlock → Type 0) → Type 0
 Rests IsUse names sheet around Rest = (it : NamedBlock) (rest : Block) → Rest it → IsBlock names sheet it rest → IsTextBlock IsUse (length names) around rest
 
-abbrev pub AreUses : (NumberedUse → Type 0) → NumberedSimple → Type 0
-AreUses IsUse statement = AllByRecursion IsUse (uses_of statement)
-
 module _ (names : List Text) (sheet : Nameable) where
   -- a kind of block in which variables may be set to values, whatever statements of its own it has
   module _ (IsUse : NumberedUse → Type 0) (is_target : (slot : ℕ) → slot < length names → IsUse (Target slot)) (is_value : (value : Expression) → IsTextExpression (length names) value → IsUse (Value value))
       {B : Type 0} (IsOwn : B → NamedSimple → Type 0) (own_pieces : B → List Piece) (own_limits : B → List Position)
-      (own_read : (it : B) (statement : NamedSimple) (b : NumberedSimple) → AreSound (own_pieces it) → own_limits it ≡ [] → IsOwn it statement → IsSimple names sheet statement b → AreUses IsUse b) where
-    assigned_read : (it : Named) (expr : Expr) (statement : NamedSimple) (b : NumberedSimple) → AreSound (expr_pieces expr) → expr_limits expr ≡ [] → IsAssigned it expr statement → IsSimple names sheet statement b → AreUses IsUse b
+      (own_read : (it : B) (statement : NamedSimple) (b : NumberedSimple) → AreSound (own_pieces it) → own_limits it ≡ [] → IsOwn it statement → IsSimple names sheet statement b → AllUses IsUse b) where
+    assigned_read : (it : Named) (expr : Expr) (statement : NamedSimple) (b : NumberedSimple) → AreSound (expr_pieces expr) → expr_limits expr ≡ [] → IsAssigned it expr statement → IsSimple names sheet statement b → AllUses IsUse b
     assigned_read it expr (simple.Assign called value) (simple.Assign slot e) sound none is means = (is_target slot (slot_within names called slot means.0), (is_value e (expression_read names expr value e sound none is.1 means.1), tt))
     assigned_read _ _ _ _ _ _ is means = absurd (assumption)
 

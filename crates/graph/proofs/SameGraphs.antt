@@ -1,6 +1,5 @@
 -- Trees of one derivation differ only in where their parts are in memory: all of them that are graphs are one graph.
 use Rattle.std.proofs.Common.{◌≡◌, List, [], ◌∷◌, sym, ◌∙◌, ℕ, Some, refl, ap, ◌++◌, map, arith, subst}
-use Rattle.std.specs.Prelude.{⊤}
 use Rattle.steptree.specs.declared.step.Name.{Name}
 use Rattle.syntax.specs.Grammar.{Named, StepText, GraphText}
 use Rattle.syntax.specs.Tree.{IsName, AreAll}

@@ -3,7 +3,7 @@ use Rattle.std.specs.Prelude.{◌≡◌, ◌≢◌, ◌≤◌, ◌<◌, ⊤, ℕ
 use Rattle.std.specs.List.{AllByRecursion}
 use Rattle.terms.specs.declared.key.TheConstants.{MAX_COMPONENTS}
 use Rattle.steptree.specs.Tree.{Expression, Number, Variable, Negation, Operation, End, Do, If, For}
-use Rattle.steptree.specs.Simple.{Block, NumberedUse, Target, Value, ItemRead, ItemPut, TagPut, uses_of}
+use Rattle.steptree.specs.Simple.{Block, NumberedUse, Target, Value, ItemRead, ItemPut, TagPut, AllUses}
 use Rattle.steptree.specs.Names.{Text, names_in}
 use Rattle.syntax.specs.declared.token.Word.{Word}
 use Rattle.syntax.specs.declared.limits.TheConstants.{MOST_NAME_BYTES, MOST_DEPTH, MOST_BRACES}
@@ -71,7 +71,7 @@ IsWriteUse names (TagPut collection components) = AreComponents names components
 -- a block inside `around` braces, whose simple statements use only such things
 abbrev pub IsTextBlock : (NumberedUse → Type 0) → ℕ → ℕ → Block → Type 0
 IsTextBlock IsUse names around End = ⊤
-IsTextBlock IsUse names around (Do statement rest) = AllByRecursion IsUse (uses_of statement) × IsTextBlock IsUse names around rest
+IsTextBlock IsUse names around (Do statement rest) = AllUses IsUse statement × IsTextBlock IsUse names around rest
 IsTextBlock IsUse names around (If condition first second rest) =
     IsTextExpression names condition × (around < MOST_BRACES) × IsTextBlock IsUse names (suc around) first × IsTextBlock IsUse names (suc around) second × IsTextBlock IsUse names around rest
 IsTextBlock IsUse names around (For slot from to block rest) =

@@ -37,7 +37,7 @@ outcome_from machine progress reads = outcome_of_state machine progress (state_o
 abbrev pub outcome_after : Instruction → Machine → Progress → List Read → Outcome
 outcome_after one machine progress reads = carried_out (executed (BUDGET - progress.counted) machine.code.now) (open_loops machine) one (state_of machine progress reads)
 
--- what comes of what a simple statement does, after which the code goes on at `next`
+-- what comes of what a counted statement does, after which the code goes on at `next`
 abbrev pub outcome_of_action : Action → ℕ → Machine → Progress → List Read → Outcome
 outcome_of_action action next machine progress reads = acting action (state_of machine progress reads) (executed (BUDGET - progress.counted) machine.code.now (open_loops machine) next)
 

@@ -7,7 +7,7 @@ ghost use Rattle.steptree.specs.Compiled.{Stands};
 ghost use Rattle.steptree.specs.Executed.{advanced};
 ghost use Rattle.steplang.specs.Stages.{IsStarted};
 ghost use Rattle.steplang.specs.declared.machine.Step.TheVariants.{On};
-ghost use Rattle.steplang.specs.Machine.{outcome_from, outcome_of_action, GetsValue, LeadsFrom, CarriesOut, open_loops, Falls, OpensOne, IsRare, Carries};
+ghost use Rattle.steplang.specs.Machine.{outcome_from, outcome_of_action, GetsValue, LeadsFrom, open_loops, Falls, OpensOne, IsRare, Carries};
 
 use crate::action::action;
 use crate::value::{Variables, evaluate, evaluate_expression, variables_of};
@@ -270,7 +270,7 @@ impl<'a> Machine<'a> {
     }
 
     // Does a simple statement.
-    fn simply(
+    fn do_simple(
         &mut self,
         progress: &mut Progress,
         statement: &Simple,
@@ -359,7 +359,7 @@ impl<'a> Machine<'a> {
                 if !progress.count() {
                     return Ok(Step::Failed(FaultKind::Budget));
                 }
-                self.simply(progress, statement, *next)
+                self.do_simple(progress, statement, *next)
             }
         }
     }

@@ -21,7 +21,7 @@ use Rattle.steptree.specs.declared.code.Loop.{Loop}
 use Rattle.steptree.specs.Run.{Read, State, Outcome, ends, faults, asks, strays, followed, counting, given, assigned, answered, putting, acting, doing, turns, run}
 use Rattle.steptree.specs.Values.{value_of}
 use Rattle.steptree.specs.Executed.{Onward, advanced, performed, turned, stepped, executed}
-use Rattle.steptree.specs.Compiled.{Stands, IsCode, does}
+use Rattle.steptree.specs.Compiled.{Stands, IsCode, simple_of}
 
 -- what is still to be done: a block, or the turns of a loop that are left, from a number up to but not including another
 pub data Rest : Type 0 where
@@ -90,7 +90,7 @@ module _ (more : List Rest) where
   simply statement state f g same = gives (action_of statement state.variables) state _ _ (λ action. acts action state f g same)
 
 -- an instruction that does a simple statement
-does_it : (onward : Onward) (loops : List Loop) (one : Instruction) (statement : NumberedSimple) (next : ℕ) (state : State) (out : Outcome) → does one ≡ Some (statement, next)
+does_it : (onward : Onward) (loops : List Loop) (one : Instruction) (statement : NumberedSimple) (next : ℕ) (state : State) (out : Outcome) → simple_of one ≡ Some (statement, next)
     → performed onward loops (Some one) state out ≡ counting state (λ now. doing statement now (onward loops next))
 does_it onward loops one statement next state out is = grind arith
 

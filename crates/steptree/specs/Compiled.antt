@@ -12,17 +12,18 @@ use Rattle.steptree.specs.Executed.{expression_of}
 abbrev pub Stands : List Instruction → ℕ → Instruction → Type 0
 Stands code at one = slice_get code at ≡ Some one
 
--- the simple statement that an instruction does, and the place where it goes on
-abbrev pub does : Instruction → Option (NumberedSimple × ℕ)
-does (instruction.Assign variable value next) = Some (Assign variable (expression_of value), next)
-does (instruction.Do statement next) = Some (statement, next)
-does one = None
+-- the simple statement that an instruction is made of, and the place where it goes on; an assignment has an instruction of its own
+abbrev pub simple_of : Instruction → Option (NumberedSimple × ℕ)
+simple_of (instruction.Assign variable value next) = Some (Assign variable (expression_of value), next)
+simple_of (instruction.Do (Assign variable value) next) = None
+simple_of (instruction.Do statement next) = Some (statement, next)
+simple_of one = None
 
 -- the instructions from `at` on do what the block does, and then go on at `stop`
 abbrev pub IsCode : List Instruction → ℕ → Block → ℕ → Type 0
 IsCode code at End stop = at ≡ stop
 IsCode code at (Do statement rest) stop = (one : Instruction) × (next : ℕ)
-    × Stands code at one × (does one ≡ Some (statement, next)) × IsCode code next rest stop
+    × Stands code at one × (simple_of one ≡ Some (statement, next)) × IsCode code next rest stop
 IsCode code at (If condition first second rest) stop = (formula : Formula) × (one : ℕ) × (two : ℕ) × (next : ℕ)
     × Stands code at (instruction.Branch formula one two) × (expression_of formula ≡ condition)
     × IsCode code one first next × IsCode code two second next × IsCode code next rest stop

@@ -6,7 +6,7 @@ use Rattle.terms.specs.declared.put.Put.{Put}
 use Rattle.terms.specs.declared.put.Put.TheVariants as put
 use Rattle.steptree.specs.Nameable.{Collection, Nameable}
 use Rattle.steptree.specs.Tree.{End, Do, If, For}
-use Rattle.steptree.specs.Simple.{NumberedSimple, Block, NumberedUse, Target, Value, ItemRead, ItemPut, TagPut, uses_of}
+use Rattle.steptree.specs.Simple.{NumberedSimple, Block, NumberedUse, Target, Value, ItemRead, ItemPut, TagPut, AllUses}
 use Rattle.steptree.specs.declared.body.Body.{Body}
 use Rattle.steptree.specs.Run.{Read}
 use Rattle.steptree.specs.Bodies.{Ending, Gives, Faults, Asks, Along}
@@ -33,9 +33,9 @@ Allows sheet (ItemRead collection components) = MayRead sheet collection.0 (leng
 Allows sheet (ItemPut collection components) = MayPutItem sheet collection.0 (length components)
 Allows sheet (TagPut collection components) = MayPutTag sheet collection.0 (length components)
 
--- all that the statement uses
+-- the sheet allows all that the statement uses
 abbrev pub AllowsAll : Nameable → NumberedSimple → Type 0
-AllowsAll sheet statement = AllByRecursion (Allows sheet) (uses_of statement)
+AllowsAll sheet = AllUses (Allows sheet)
 
 -- the block gets and puts only what the sheet allows
 abbrev pub KeepsTo : Nameable → Block → Type 0

@@ -1,6 +1,7 @@
 -- Simple statements, which have no blocks inside them: what each one uses, and what it does.
 use Rattle.std.specs.Prelude.{ℕ, ℤ, List, [], ◌∷◌, Result, Ok}
 use Rattle.std.specs.Global.{Vec}
+use Rattle.std.specs.List.{AllByRecursion}
 use Rattle.terms.specs.declared.name.ItemCollection.{ItemCollection}
 use Rattle.terms.specs.declared.name.TagCollection.{TagCollection}
 use Rattle.terms.specs.declared.put.Put.TheVariants.{Item, Tag}
@@ -29,7 +30,8 @@ NamedBlock = BlockTree Name NamedSimple
 
 -- ---- what it uses
 
--- a variable that gets a value, an expression that is evaluated, or a key by which an item is read or put, or a tag is put
+-- What a statement names or evaluates: a variable that gets a value, an expression, or the key of an item that is read, of an item
+-- that is put, or of a tag that is put.
 pub data Use (V I T C : Type 0) : Type 0 where
   Target : V → Use V I T C
   Value : ExpressionTree V → Use V I T C
@@ -43,6 +45,10 @@ uses_of (Assign variable value) = Target variable ∷ Value value ∷ []
 uses_of (Get variable collection components) = Target variable ∷ ItemRead collection components ∷ []
 uses_of (PutItem collection components value) = ItemPut collection components ∷ Value value ∷ []
 uses_of (PutTag collection components) = TagPut collection components ∷ []
+
+-- all that it uses is such
+abbrev pub AllUses : {V I T C : Type 0} → (Use V I T C → Type 0) → Simple V I T C → Type 0
+AllUses Is statement = AllByRecursion Is (uses_of statement)
 
 abbrev pub NumberedUse : Type 0
 NumberedUse = Use ℕ ItemCollection TagCollection (List Expression)

@@ -18,7 +18,7 @@ pub struct Block<V = Slot, S = Simple> {
 #[cycle(block)]
 #[derive(Drop)]
 pub enum Statement<V = Slot, S = Simple> {
-    /// Does what has no blocks inside it.
+    /// A statement without blocks inside it.
     Simple(S),
     /// Runs the first block if the condition is not 0, else the second.
     If {

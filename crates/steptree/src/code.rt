@@ -104,7 +104,7 @@ pub enum Instruction {
         begin: usize,
         after: usize,
     },
-    /// Does a simple statement.
+    /// Does a simple statement that is no assignment.
     Do {
         statement: Simple,
         next: usize,

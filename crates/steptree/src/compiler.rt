@@ -4,7 +4,7 @@
 ghost use Rattle.std.specs.Prelude.{◌≡◌, IfOk, Some};
 ghost use Rattle.steptree.specs.Tree as tree;
 ghost use Rattle.steptree.specs.Executed.{Performs};
-ghost use Rattle.steptree.specs.Compiled.{Compiles, CompilesLoop, IsCode, Keeps, Stands, does};
+ghost use Rattle.steptree.specs.Compiled.{Compiles, CompilesLoop, IsCode, Keeps, Stands, simple_of};
 ghost use Rattle.steptree.specs.SeenBlocks.{stated};
 
 mod formulas;
@@ -59,7 +59,7 @@ fn compile_statement(
     ensures keeps { IfOk result (λ at. Keeps code.old.items code.new.items) }
 {
     match statement {
-        Statement::Simple(simple) => simply(alloc, code, simple, next),
+        Statement::Simple(simple) => compile_simple(alloc, code, simple, next),
         Statement::If {
             condition,
             first,
@@ -75,7 +75,7 @@ fn compile_statement(
 }
 
 // Adds a simple statement.
-fn simply(
+fn compile_simple(
     alloc: Global,
     code: &mut Vec<Instruction>,
     statement: &Simple,
@@ -89,21 +89,21 @@ fn simply(
     Ok(at)
 }
 
-// The instruction that does a simple statement.
+// The instruction of a simple statement. An assignment has one of its own.
 fn instruction(alloc: Global, statement: &Simple, next: usize) -> Result<Instruction, AllocError>
-    ensures { IfOk result (λ one. does one ≡ Some (statement.now, next)) }
+    ensures { IfOk result (λ one. simple_of one ≡ Some (statement.now, next)) }
 {
-    if let Simple::Assign { variable, value } = statement {
-        return Ok(Instruction::Assign {
+    match statement {
+        Simple::Assign { variable, value } => Ok(Instruction::Assign {
             variable: *variable,
             value: formula(alloc, value)?,
             next,
-        });
+        }),
+        _ => Ok(Instruction::Do {
+            statement: statement.copied(alloc)?,
+            next,
+        }),
     }
-    Ok(Instruction::Do {
-        statement: statement.copied(alloc)?,
-        next,
-    })
 }
 
 // Adds a choice between two blocks.

@@ -19,7 +19,7 @@ pub record IsGetRead (statement : NamedSimple) (before after : List Spot) : Type
   pub is : IsGet get statement
   pub within : get_limits get ≡ []
 
--- after the word `put` and the pieces `front`, where `expected` may come
+-- a put, of whose pieces after its word those in `front` were read before, and `rest` is read here, where `expected` may come
 pub record IsPutRead (expected : List Expected) (front : List Piece) (statement : NamedSimple) (before after : List Spot) : Type 0 where
   pub put : Put
   pub rest : List Piece

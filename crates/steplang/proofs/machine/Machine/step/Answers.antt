@@ -33,4 +33,4 @@ pub returns-else-not-count-2-clause-leads : goal.returns-else-not-count-2-clause
 returns-else-not-count-2-clause-leads c =
     let one = instruction.Do c.in-Do.statement c.in-Do.next in
     let there : Stands c.args.self.now.code.now c.args.progress.now.at one = c.requires.stands ∙ ap Some c.in-Do.is in
-    ok_leads _ _ (made c.args.self.now c.args.progress.now c.count-in-Do.new.self c.count-in-Do.result c.count-in-Do.ensures.counted one there (λ state onward out. refl) c.if-not-count-2.false c.count-in-Do.ensures.one) _ _ c.simply.result c.simply.ensures.leads
+    ok_leads _ _ (made c.args.self.now c.args.progress.now c.count-in-Do.new.self c.count-in-Do.result c.count-in-Do.ensures.counted one there (λ state onward out. refl) c.if-not-count-2.false c.count-in-Do.ensures.one) _ _ c.do_simple.result c.do_simple.ensures.leads
