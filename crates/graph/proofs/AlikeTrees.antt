@@ -4,7 +4,7 @@ use Rattle.std.specs.Prelude.{⊤}
 use Rattle.steptree.specs.declared.step.Name.{Name}
 use Rattle.steptree.specs.Tree as tree
 use Rattle.steptree.specs.Tree.{NamedExpression, Number, Variable, Negation, Operation, End, Do, If, For, Expression}
-use Rattle.steptree.specs.Simple.{NumberedSimple, NamedSimple, Block, NamedBlock, NamedUse, Target, Value, ItemRead, ItemPut, TagPut, uses_of}
+use Rattle.steptree.specs.Simple.{NumberedSimple, NamedSimple, Block, NamedBlock, NamedUse, Target, Value, ItemRead, ItemPut, TagPut, form_of, uses_of}
 use Rattle.syntax.specs.Grammar.{Named, Expr, sum_alone, compared, Sum, prod_alone, added, Prod, unary_alone, multiplied, Unary, negated, literal, variable, bracketed, Sums, no_sums, sums, Key, Statement, own, assigned, if_alone, if_else, for, Statements, no_more, and_then}
 use Rattle.syntax.specs.Tree.{IsName, AreAll, IsExpr, IsSum, IsProd, IsUnary, AreSums, IsKey, IsAssigned, IsStatement, AreStatements}
 use Rattle.steptree.specs.Names.{Text, place_of, names_in}
@@ -75,7 +75,7 @@ AlikeUse (TagPut one key) (TagPut two other) = AlikeKey one key.items two other.
 AlikeUse one two = ⊥
 
 abbrev pub AlikeSimple : NamedSimple → NamedSimple → Type 0
-AlikeSimple one two = AreAll AlikeUse (uses_of one) (uses_of two)
+AlikeSimple one two = (form_of one ≡ form_of two) × AreAll AlikeUse (uses_of one) (uses_of two)
 
 assigned_alike : (it : Named) (expr : Expr) (one two : NamedSimple) → IsAssigned it expr one → IsAssigned it expr two → AlikeSimple one two
 assigned_alike it expr one two a b = grind (arith, same_name, expr_alike)

@@ -29,12 +29,12 @@ use Rattle.graph.proofs.PrintedBlocks.{Known, SimplePrinted, BlockPrinted, assig
 -- ---- two of one derivation
 
 pub get_alike : (get : Get) (one two : NamedSimple) → IsGet get one → IsGet get two → AlikeSimple one two
-get_alike get (simple.Get n collection key) (simple.Get m another other) a b = (same_name get.variable n m a.0 b.0, (key_alike get.item collection key.items another other.items a.1 b.1, tt))
+get_alike get (simple.Get n collection key) (simple.Get m another other) a b = (refl, (same_name get.variable n m a.0 b.0, (key_alike get.item collection key.items another other.items a.1 b.1, tt)))
 get_alike _ _ _ a b = absurd (assumption)
 
 pub put_alike : (put : Put) (one two : NamedSimple) → IsPut put one → IsPut put two → AlikeSimple one two
-put_alike (put_item item expr) (simple.PutItem collection key e) (simple.PutItem another other f) a b = (key_alike item collection key.items another other.items a.0 b.0, (expr_alike expr e f a.1 b.1, tt))
-put_alike (put_tag tag) (simple.PutTag collection key) (simple.PutTag another other) a b = (key_alike tag collection key.items another other.items a b, tt)
+put_alike (put_item item expr) (simple.PutItem collection key e) (simple.PutItem another other f) a b = (refl, (key_alike item collection key.items another other.items a.0 b.0, (expr_alike expr e f a.1 b.1, tt)))
+put_alike (put_tag tag) (simple.PutTag collection key) (simple.PutTag another other) a b = (refl, (key_alike tag collection key.items another other.items a b, tt))
 put_alike _ _ _ a b = absurd (assumption)
 
 -- ---- what is read

@@ -18,9 +18,7 @@ ghost use Rattle.graph.specs.contracts.numbered.Numbered as of_names;
 
 use crate::graph::Prescribed;
 use indexmap::IndexMap;
-use steptree::{
-    Block, Body, Code, Components, Expression, Formula, Instruction, Link, Simple, Slot, Statement,
-};
+use steptree::{Block, Body, Code, Components, Expression, Formula, Link, Simple, Slot, Statement};
 use terms::{StepCollection, TagCollection};
 
 /// Gives its caller the clause that trait search finds for a type.
@@ -103,10 +101,10 @@ fn formulas_are_shared()
 fn instructions_go()
     ensures { IsSend of_instruction.the_row }
 {
+    goes::<Slot>();
     goes::<Expression>();
     simple_statements_go();
     formulas_go();
-    goes::<Instruction>();
 }
 
 /// The same for sharing between threads.

@@ -28,6 +28,14 @@ NamedSimple = Simple Name Name Name (Vec NamedExpression)
 abbrev pub NamedBlock : Type 0
 NamedBlock = BlockTree Name NamedSimple
 
+-- ---- which one it is
+
+abbrev pub form_of : {V I T C : Type 0} → Simple V I T C → ℕ
+form_of (Assign variable value) = 0
+form_of (Get variable collection components) = 1
+form_of (PutItem collection components value) = 2
+form_of (PutTag collection components) = 3
+
 -- ---- what it uses
 
 -- What a statement names or evaluates: a variable that gets a value, an expression, or the key of an item that is read, of an item
