@@ -287,7 +287,6 @@ impl<'a> Machine<'a> {
     }
 
     // Does what a simple statement came to.
-    #[tactic(auto, using(crate::proofs::Answered::answers))]
     fn act(
         &mut self,
         progress: &mut Progress,
