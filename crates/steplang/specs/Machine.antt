@@ -1,7 +1,9 @@
 -- An instance while its code runs, seen as the outcome that is still to come.
-use Rattle.std.specs.Prelude.{◌≡◌, ℕ, ◌+◌, ◌-◌, ◌*◌, ◌<◌, ◌≤◌, ℤ, List, [], ◌∷◌, length, reverse, Option, None, Some, IfOk, Result}
+use Rattle.std.specs.Prelude.{◌≡◌, ℕ, ◌+◌, ◌-◌, ◌*◌, ◌<◌, ◌≤◌, ℤ, List, [], ◌∷◌, length, reverse, Option, None, Some, IfOk, Result, Ok}
 use Rattle.steptree.specs.declared.body.TheConstants.{BUDGET}
+use Rattle.terms.specs.declared.fault.FaultKind.{FaultKind}
 use Rattle.steptree.specs.declared.simple.Action.{Action}
+use Rattle.steptree.specs.declared.simple.Action.TheVariants.{Puts}
 use Rattle.steptree.specs.declared.code.Instruction.{Instruction}
 use Rattle.steptree.specs.declared.code.Instruction.TheVariants as instruction
 use Rattle.steptree.specs.declared.code.Loop.{Loop}
@@ -40,6 +42,11 @@ outcome_after one machine progress reads = carried_out (executed (BUDGET - progr
 -- what comes of what a counted statement does, after which the code goes on at `next`
 abbrev pub outcome_of_action : Action → ℕ → Machine → Progress → List Read → Outcome
 outcome_of_action action next machine progress reads = acting action (state_of machine progress reads) (executed (BUDGET - progress.counted) machine.code.now (open_loops machine) next)
+
+-- it is a put, for which memory may be refused
+abbrev pub IsPut : Result Action FaultKind → Type 0
+IsPut (Ok (Puts one)) = Unit {0}
+IsPut action = ⊥
 
 -- the variable gets the value: for any reads, the outcome that is to come now is the one from the state in which it has it
 abbrev pub GetsValue : ℕ → ℤ → Machine → Machine → Type 0

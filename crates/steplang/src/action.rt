@@ -5,7 +5,8 @@ use crate::value::{Variables, evaluate_expression, evaluate_key};
 use steptree::{Action, Simple};
 use terms::{Addr, FaultKind, Put, Tag};
 
-/// What a simple statement does when the variables have these values.
+/// What a simple statement does when the variables have these values. The compiler gives an assignment an instruction of its
+/// own, so none of its code brings one here.
 pub(crate) fn action(statement: &Simple, variables: &Variables) -> Result<Action, FaultKind>
     ensures { result ≡ action_of statement.now variables.now }
 {

@@ -3,11 +3,12 @@ ghost use Rattle.std.specs.Ordering.{int_eq};
 ghost use Rattle.steptree.specs.declared.body.TheConstants.{BUDGET};
 ghost use Rattle.steptree.specs.declared.code.Instruction.TheVariants as instruction;
 ghost use Rattle.steptree.specs.declared.simple.Action.TheVariants.{Puts};
+ghost use Rattle.steptree.specs.Simple.{action_of};
 ghost use Rattle.steptree.specs.Compiled.{Stands};
 ghost use Rattle.steptree.specs.Executed.{advanced};
 ghost use Rattle.steplang.specs.Stages.{IsStarted};
 ghost use Rattle.steplang.specs.declared.machine.Step.TheVariants.{On};
-ghost use Rattle.steplang.specs.Machine.{outcome_from, outcome_of_action, GetsValue, LeadsFrom, open_loops, Falls, OpensOne, IsRare, Carries};
+ghost use Rattle.steplang.specs.Machine.{outcome_from, outcome_of_action, GetsValue, LeadsFrom, open_loops, Falls, OpensOne, IsPut, IsRare, Carries};
 
 use crate::action::action;
 use crate::value::{Variables, evaluate, evaluate_expression, variables_of};
@@ -278,6 +279,7 @@ impl<'a> Machine<'a> {
     ) -> Result<Step, AllocError>
         ensures leads { Carries (instruction.Do statement.now next) self.old progress.old self.new progress.new result }
         ensures opens { IfOk result (λ step. OpensOne self.old progress.old step self.new progress.new) }
+        ensures refused { OnErr result (IsPut (action_of statement.now self.old.variables)) }
         ensures same { self.new.code ≡ self.old.code }
     {
         match action(statement, &self.variables) {
@@ -295,6 +297,7 @@ impl<'a> Machine<'a> {
     ) -> Result<Step, AllocError>
         ensures leads { IfOk result (λ step. LeadsFrom (outcome_of_action action next self.old progress.old) step self.new progress.new) }
         ensures opens { IfOk result (λ step. OpensOne self.old progress.old step self.new progress.new) }
+        ensures refused { OnErr result (IsPut (Ok action)) }
         ensures same { self.new.code ≡ self.old.code }
     {
         match action {

@@ -3,7 +3,8 @@ use Rattle.std.proofs.Common.{◌≡◌, ℕ, List, [], ◌∷◌, ◌++◌, ref
 use Rattle.std.specs.List.{flat_map}
 use Rattle.std.proofs.lemmas.List.{append-nil}
 use Rattle.steptree.specs.Tree.{NamedExpression}
-use Rattle.steptree.specs.Simple.{NamedBlock}
+use Rattle.steptree.specs.declared.step.Name.{Name}
+use Rattle.steptree.specs.Simple.{NamedSimple, NamedBlock}
 use Rattle.steptree.specs.SeenBlocks.{NamedStatement, joined}
 use Rattle.steptree.specs.declared.block.Statement.TheVariants as statement
 use Rattle.steptree.specs.Tree as block
@@ -12,19 +13,23 @@ use Rattle.syntax.specs.declared.part.Beginning.TheVariants as beginning
 use Rattle.syntax.specs.declared.stop.Stop.{Stop}
 use Rattle.syntax.specs.declared.token.Word.TheVariants as kept
 use Rattle.syntax.specs.Tokens.{Spot}
-use Rattle.syntax.specs.Grammar.{Statement, if_alone, if_else}
+use Rattle.syntax.specs.Grammar.{Expr, Statement, if_alone, if_else}
 use Rattle.syntax.specs.Limits.{statement_limits, statements_limits}
 use Rattle.syntax.specs.Spelled.{a_word, in_braces_at, condition_pieces, statement_pieces, statements_pieces}
-use Rattle.syntax.specs.Tree.{IsStatement, AreStatements, AreAll}
+use Rattle.syntax.specs.Tree.{IsAssigned, IsStatement, AreStatements, AreAll}
 use Rattle.syntax.specs.Expected.{Part, Expected, keyword, statements, or_else, run}
 use Rattle.syntax.specs.Front.{front_of}
-use Rattle.syntax.specs.Parsed.{Reads, Tells, Stops}
+use Rattle.syntax.specs.Blocks.{IsAssignment}
+use Rattle.syntax.specs.Parsed.{Reads, Tells, Stops, named_of}
 use Rattle.syntax.specs.Statements.{Own, own_pieces, own_limits, is_own, Begins, assignment_expected, choice_expected, repetition_expected, own_expected, IsStatementOf, IsStatementRead, IsChoiceRead}
 use Rattle.syntax.specs.Statements.{IsConditionRead, IsNestedRead, Second, second_pieces, second_limits, IsSecond, IsSecondRead, NoneBegins, statements_of, StatementsSoFar, AreRead}
 use Rattle.syntax.proofs.Moves.{◌⨟◌, reads_on}
 use Rattle.syntax.proofs.KeyParts.{flat_more, flat_none, all_more}
 
 -- ---- parts of a statement
+
+pub assigned_is : (variable : Name) (expr : Expr) (statement : NamedSimple) → IsAssignment variable expr statement → IsAssigned (named_of variable) expr statement
+assigned_is variable expr statement is = grind arith
 
 -- a choice, with a second block or none
 pub choice_read : {part : Part} {around : ℕ} {value : NamedExpression} {one two : NamedBlock} {before middle three four after : List Spot}

@@ -1,11 +1,10 @@
 //! Statements without blocks.
 ghost use Rattle.std.specs.Prelude.{◌<◌, ◌∷◌, [], length, IfOk, IfErr, OnOk};
-ghost use Rattle.syntax.specs.Expected.{get_rest, put_target};
+ghost use Rattle.syntax.specs.Expected.{get_rest, item_rest, put_target, tag_rest};
 ghost use Rattle.syntax.specs.Parsed.{left, Stops};
 ghost use Rattle.syntax.specs.declared.token.Symbol.TheVariants as sign;
 ghost use Rattle.syntax.specs.Spelled.{a_sign};
 ghost use Rattle.syntax.specs.Blocks.{assignment_rest, IsValueRead, IsGetRead, IsPutRead};
-ghost use Rattle.syntax.specs.Expected.{item_rest, tag_rest};
 
 use crate::cursor::Cursor;
 use crate::expressions::value;

@@ -3,8 +3,7 @@ use Rattle.syntax.specs.declared.token.Symbol.TheVariants as sign
 use Rattle.syntax.specs.Tokens.{symbol}
 use Rattle.syntax.specs.Spelled.{plain}
 use Rattle.syntax.specs.Parsed.{left}
-use Rattle.syntax.specs.Expected.{put_target, look_put_target}
-use Rattle.syntax.specs.Expected.{item_rest, tag_rest}
+use Rattle.syntax.specs.Expected.{item_rest, put_target, tag_rest, look_put_target}
 use Rattle.syntax.proofs.Moves.{reads_on, taken_one}
 use Rattle.syntax.proofs.Forward.{known}
 use Rattle.syntax.proofs.Returned.{as_ok}
