@@ -9,14 +9,12 @@ use std::marker::Model;
 ///
 /// A variable is a `V`, and a statement without blocks an `S`.
 #[cycle(block)]
-#[derive(Drop)]
 pub struct Block<V = Slot, S = Simple> {
     pub statements: Vec<Statement<V, S>>,
 }
 
 /// A statement, with the blocks inside it.
 #[cycle(block)]
-#[derive(Drop)]
 pub enum Statement<V = Slot, S = Simple> {
     /// A statement without blocks inside it.
     Simple(S),
@@ -62,6 +60,35 @@ impl<V, S> Block<V, S> {
     {
         Block {
             statements: Vec::new(alloc),
+        }
+    }
+}
+
+impl<V: Drop, S: Drop> Drop for Block<V, S> {
+    // Written by hand, so that dropping a block is one call everywhere.
+    #[cycle(drops)]
+    fn drop(self) {
+        let Block { statements: _ } = self;
+    }
+}
+
+impl<V: Drop, S: Drop> Drop for Statement<V, S> {
+    // Written by hand, so that dropping a statement is one call everywhere.
+    #[cycle(drops)]
+    fn drop(self) {
+        match self {
+            Statement::Simple(_) => {}
+            Statement::If {
+                condition: _,
+                first: _,
+                second: _,
+            } => {}
+            Statement::For {
+                variable: _,
+                from: _,
+                to: _,
+                block: _,
+            } => {}
         }
     }
 }

@@ -7,7 +7,6 @@ use terms::{Addr, ItemCollection, Put, TagCollection};
 /// A statement without blocks inside it.
 ///
 /// A variable is a `V`, a collection of items an `I`, a collection of tags a `T`, and the components of a key are a `C`.
-#[derive(Drop)]
 pub enum Simple<V = Slot, I = ItemCollection, T = TagCollection, C = Components> {
     /// Gives a variable the value of an expression.
     Assign {
@@ -80,5 +79,31 @@ impl Simple {
                 components: components.copied(alloc)?,
             },
         })
+    }
+}
+
+impl<V: Drop, I: Drop, T: Drop, C: Drop> Drop for Simple<V, I, T, C> {
+    // Written by hand, so that dropping a statement is one call everywhere.
+    fn drop(self) {
+        match self {
+            Simple::Assign {
+                variable: _,
+                value: _,
+            } => {}
+            Simple::Get {
+                variable: _,
+                collection: _,
+                components: _,
+            } => {}
+            Simple::PutItem {
+                collection: _,
+                components: _,
+                value: _,
+            } => {}
+            Simple::PutTag {
+                collection: _,
+                components: _,
+            } => {}
+        }
     }
 }
