@@ -10,15 +10,16 @@ use Rattle.syntax.specs.declared.stop.Stop.{Stop}
 use Rattle.syntax.specs.declared.tree.Relation.{Relation as Related}
 use Rattle.syntax.specs.declared.tree.Declaration.{Declaration as Declared}
 use Rattle.syntax.specs.declared.tree.Tree.{Tree}
+use Rattle.syntax.specs.declared.token.Symbol.{Symbol}
 use Rattle.syntax.specs.declared.token.Symbol.TheVariants as sign
 use Rattle.syntax.specs.declared.tree.Declaration.TheVariants as declares
 use Rattle.syntax.specs.Tokens.{symbol, Spot}
 use Rattle.syntax.specs.Grammar.{Position}
 use Rattle.syntax.specs.Spelled.{Piece, named, a_sign, ArePieces}
 use Rattle.syntax.specs.GraphTexts.{declaration_pieces, relation_pieces, step_pieces, declarations_limits, relation_limits, steps_limits, IsDeclaration, IsRelation}
-use Rattle.syntax.specs.Expected.{Kind, Expected, exactly, a_name, front, front_named, front_closed, relations, closing, run, declarations, syntax, steps, graph_expected}
+use Rattle.syntax.specs.Expected.{Kind, item, tag, Expected, exactly, a_name, front, front_named, front_closed, relations, closing, run, declarations, syntax, steps, graph_expected}
 use Rattle.syntax.specs.Front.{front_of}
-use Rattle.syntax.specs.Parsed.{Reads, Tells, Stops, named_of, Spells}
+use Rattle.syntax.specs.Parsed.{Reads, Stops, named_of, Spells}
 use Rattle.syntax.specs.Relations.{IsRelationRest}
 use Rattle.syntax.specs.Declarations.{relation_rest, IsBehindName, IsFront, IsDeclarationRest, AreDeclared, ArePreamble}
 use Rattle.syntax.specs.Limits.{one_more}
@@ -31,6 +32,16 @@ use Rattle.syntax.proofs.KeyParts.{flat_more, flat_none, all_more}
 pub bracket_due : (kind : Kind) (items tags : ℕ) (at : Position) (behind : List Expected) (spots : List Spot) → (front_of spots).0 ≢ symbol sign.Colon
     → run (front_named kind items tags at ∷ behind) spots ≡ run (exactly (closing kind) ∷ front_closed kind items tags at ∷ behind) spots
 bracket_due kind items tags at behind spots no_colon = grind arith
+
+-- ---- which kind of collections a bracket closes
+
+pub closes_item : (kind : Kind) (close : Symbol) → close ≡ closing kind → close ≡ sign.CloseBracket → kind ≡ item
+closes_item item close closes is = refl
+closes_item tag close closes is = absurd (cc)
+
+pub closes_tag : (kind : Kind) (close : Symbol) → close ≡ closing kind → close ≢ sign.CloseBracket → kind ≡ tag
+closes_tag item close closes is = absurd (is closes)
+closes_tag tag close closes is = refl
 
 -- ---- the name
 
@@ -71,14 +82,6 @@ front_related kind items tags name begun limits tree before middle late after be
       is = rest.is;
       within = rest.within ∙ none;
     }
-
-pub related_stops : (kind : Kind) (items tags : ℕ) (name : Name) (before middle late after : List Spot) (cause : Stop)
-    → Reads (a_name ∷ []) [] (named (named_of name) ∷ []) before middle → IsBehindName kind items tags name.place None middle late
-    → Stops (relation_rest kind) late after cause → Stops (front kind items tags ∷ []) before after cause
-related_stops kind items tags name before middle late after cause begins closed stops behind =
-    subst (Tells cause after)
-    (sym ((front_name kind items tags name before middle begins).goes behind ∙ closed.goes behind ∙ ap (λ stack. run stack late) (append_assoc (relation_rest kind) (relations ∷ []) behind)))
-    (stops (relations ∷ behind))
 
 -- a declaration or a relation after its first token, which is a piece of either
 pub front_begun : (it : Front) {first : Expected} {expected : List Expected} {one two : Piece} (items tags : ℕ) {before middle : List Spot} (after : List Spot)

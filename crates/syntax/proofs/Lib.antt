@@ -4,6 +4,7 @@ pub mod Broken
 pub mod Causes
 pub mod Chain
 pub mod Completed
+pub mod Fewer
 pub mod FilledExpressions
 pub mod Fillings
 pub mod Forward

@@ -1,13 +1,14 @@
 -- Operands, as operators make them.
-use Rattle.std.proofs.Common.{◌≡◌, ℕ, ◌-◌, ◌+◌, ◌<◌, ◌≤◌, List, [], ◌∷◌, length, sym, subst, arith, Box, Global}
+use Rattle.std.proofs.Common.{◌≡◌, ℕ, suc, max, ◌-◌, ◌+◌, ◌<◌, ◌≤◌, List, [], ◌∷◌, length, sym, subst, arith, Box, Global}
 use Rattle.steptree.specs.Tree.{NamedExpression, Negation}
 use Rattle.syntax.specs.declared.limits.TheConstants.{MOST_DEPTH}
-use Rattle.syntax.specs.declared.operand.Operand.TheVariants.{Kept}
+use Rattle.syntax.specs.declared.operand.Operand.{Operand}
+use Rattle.syntax.specs.declared.operand.Operand.TheVariants.{Kept, TooDeep}
 use Rattle.syntax.specs.Grammar.{Position, Unary, negated}
 use Rattle.syntax.specs.Limits.{unary_depth}
 use Rattle.syntax.specs.Tree.{IsUnary}
 use Rattle.syntax.specs.Expected.{negated_by}
-use Rattle.syntax.specs.Partial.{HoldsUnary, Counts}
+use Rattle.syntax.specs.Partial.{Holds, HoldsUnary, Counts}
 
 pub one_minus_more : (times : ℕ) (tree new : NamedExpression) (box : Box NamedExpression Global) → 0 < times → box.value ≡ tree
     → ((positions : List Position) (unary : Unary) → length positions ≡ times - 1 → IsUnary unary (Negation box.value) → IsUnary (negated_by positions unary) new)
@@ -32,3 +33,10 @@ negated_too_many times depth positions unary tree many given holds = grind (arit
 
 pub negated_too_deep : (positions : List Position) (unary : Unary) → MOST_DEPTH < unary_depth unary → MOST_DEPTH < unary_depth (negated_by positions unary)
 negated_too_deep positions unary deep = omega (arith, negated_depth positions unary, deep)
+
+-- an operation is deeper than each of its operands
+pub left_deep : (Is : NamedExpression → Type 0) (left : Operand) (depth other : ℕ) → left ≡ TooDeep → Holds Is depth left → MOST_DEPTH < suc (max depth other)
+left_deep Is left depth other deep holds = let more = subst (Holds Is depth) deep holds in omega (arith, more)
+
+pub right_deep : (Is : NamedExpression → Type 0) (right : Operand) (depth other : ℕ) → right ≡ TooDeep → Holds Is other right → MOST_DEPTH < suc (max depth other)
+right_deep Is right depth other deep holds = let more = subst (Holds Is other) deep holds in omega (arith, more)

@@ -13,17 +13,17 @@ use Rattle.syntax.specs.declared.part.Beginning.TheVariants as beginning
 use Rattle.syntax.specs.declared.stop.Stop.{Stop}
 use Rattle.syntax.specs.declared.token.Word.TheVariants as kept
 use Rattle.syntax.specs.Tokens.{Spot}
-use Rattle.syntax.specs.Grammar.{Expr, Statement, if_alone, if_else}
+use Rattle.syntax.specs.Grammar.{Expr, Statement, if_alone, if_else, own}
 use Rattle.syntax.specs.Limits.{statement_limits, statements_limits}
 use Rattle.syntax.specs.Spelled.{a_word, in_braces_at, condition_pieces, statement_pieces, statements_pieces}
 use Rattle.syntax.specs.Tree.{IsAssigned, IsStatement, AreStatements, AreAll}
-use Rattle.syntax.specs.Expected.{Part, Expected, keyword, statements, or_else, run}
+use Rattle.syntax.specs.Expected.{Part, reading, writing, Expected, keyword, put_target, statements, or_else, run}
 use Rattle.syntax.specs.Front.{front_of}
-use Rattle.syntax.specs.Blocks.{IsAssignment}
+use Rattle.syntax.specs.Blocks.{IsAssignment, IsGetRead, IsPutRead}
 use Rattle.syntax.specs.Parsed.{Reads, Tells, Stops, named_of}
-use Rattle.syntax.specs.Statements.{Own, own_pieces, own_limits, is_own, Begins, assignment_expected, choice_expected, repetition_expected, own_expected, IsStatementOf, IsStatementRead, IsChoiceRead}
-use Rattle.syntax.specs.Statements.{IsConditionRead, IsNestedRead, Second, second_pieces, second_limits, IsSecond, IsSecondRead, NoneBegins, statements_of, StatementsSoFar, AreRead}
-use Rattle.syntax.proofs.Moves.{◌⨟◌, reads_on}
+use Rattle.syntax.specs.Statements.{Own, own_pieces, own_limits, is_own, Begins, assignment_expected, choice_expected, repetition_expected, own_expected, IsStatementOf, IsStatementRead, IsOwnRead, IsChoiceRead}
+use Rattle.syntax.specs.Statements.{IsConditionRead, IsNestedRead, Second, second_pieces, second_limits, IsSecond, IsSecondRead, statements_of, StatementsSoFar, AreRead}
+use Rattle.syntax.proofs.Moves.{◌⨟◌, reads_on, skipped}
 use Rattle.syntax.proofs.KeyParts.{flat_more, flat_none, all_more}
 
 -- ---- parts of a statement
@@ -53,6 +53,17 @@ choice_read {part} {around} {value} {one} {two} {before} {middle} {three} {four}
       is = λ rest. (condition.is, first.are, is, refl);
       within = rw (condition.within, first.within) none;
     }
+
+-- a read of an item, and a put
+pub get_read : {tree : NamedSimple} {before middle after : List Spot} → Reads (keyword kept.Get ∷ []) [] (a_word kept.Get) before middle → IsGetRead tree middle after
+    → IsOwnRead reading (statement.Simple tree) before after
+get_read begins read = λ around. record { statement = own read.get; reads = begins ⨟ read.reads; is = λ rest. (read.is, refl); within = read.within }
+
+pub put_read : {tree : NamedSimple} {before middle after : List Spot} → Reads (keyword kept.Put ∷ []) [] (a_word kept.Put) before middle → IsPutRead (put_target ∷ []) [] tree middle after
+    → IsOwnRead writing (statement.Simple tree) before after
+put_read {tree} {before} {middle} {after} begins read = λ around.
+    let reads = subst (λ pieces. Reads (own_expected writing) [] (a_word kept.Put ++ pieces) before after) (sym read.spelled) (begins ⨟ read.reads) in
+    record { statement = own read.put; reads = reads; is = λ rest. (read.is, refl); within = read.within }
 
 -- ---- what a statement begins with
 
@@ -109,6 +120,8 @@ are_joined part (first ∷ read) [] are = absurd are
 are_joined part (first ∷ read) (tree ∷ trees) are = statement_weaker part first _ (λ other. other ≡ joined trees block.End) (AreStatements (is_own part) (statements_of read))
     (λ other same. rw same (are_joined part read trees are.1)) (are.0 (joined trees block.End))
 
-pub all_statements : (part : Part) (around : ℕ) (start now after : List Spot) (trees : List NamedStatement) → StatementsSoFar part around start now trees → NoneBegins part around now after
-    → AreRead part around (joined trees block.End) start after
-all_statements part around start now after trees so_far none = grind (arith, all_limits, all_pieces, are_joined)
+pub all_statements : (part : Part) (around : ℕ) (start now : List Spot) (trees : List NamedStatement) → StatementsSoFar part around start now trees
+    → Begins part (front_of now).0 beginning.Other → AreRead part around (joined trees block.End) start now
+all_statements part around start now trees so_far none =
+    let goes : (behind : List Expected) → run (statements part around ∷ behind) now ≡ run behind now = λ behind. skipped (statements part around) behind now (none around (front_of now).1) in
+    grind (arith, all_limits, all_pieces, are_joined)

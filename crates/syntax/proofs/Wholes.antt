@@ -8,11 +8,12 @@ use Rattle.syntax.specs.Tokens.{Spot}
 use Rattle.syntax.specs.Grammar.{Position, Expr, Sum, sum_alone, Prod}
 use Rattle.syntax.specs.Limits.{expr_limits, expr_depth, depth_limits, expr_within, prod_within}
 use Rattle.syntax.specs.Spelled.{expr_pieces}
-use Rattle.syntax.specs.Expected.{Comparing, never, possible, Expression, Expected, whole, operand, behind_operand, Move, finished, level_expr, begun, run, look, sum_of, compared_of}
+use Rattle.syntax.specs.Expected.{Comparing, never, possible, Expression, Expected, whole, operand, behind_operand, level_expr, begun, run, sum_of, compared_of}
 use Rattle.syntax.specs.Front.{front_of}
 use Rattle.syntax.specs.Parsed.{Spells, Tells, Stops}
-use Rattle.syntax.specs.Partial.{HoldsProd, IsPartial, HoldsExpr, IsBehind, IsWhole, IsFresh, comparison_may_come, outermost, Follows, read_so_far, state_limits}
-use Rattle.syntax.specs.Whole.{From, Reached, IsExpression, IsWithinLimits, TellsLimit}
+use Rattle.syntax.specs.Partial.{HoldsProd, IsPartial, IsBehind, EndsBefore, IsFresh, comparison_may_come, outermost, Follows, read_so_far, state_limits}
+use Rattle.syntax.specs.Whole.{From, Reached, IsExpression, EndsWithin, StopsAtEnd}
+use Rattle.syntax.proofs.Broken.{move_told}
 use Rattle.syntax.proofs.Moves.{skipped}
 
 -- from any place on the way to the next one
@@ -45,39 +46,35 @@ alone_sum comparing sum e = grind arith
 no_limits : (expr : Expr) → ((place : Position) → depth_limits (expr_depth expr) place ≡ []) → expr_within 0 expr ≡ [] → expr_limits expr ≡ []
 no_limits expr shallow clear = rw (shallow, clear) refl
 
-pub expression_read : (comparing : Comparing) (start now after : List Spot) (product expression : Operand) (old new : Partial) (tree : NamedExpression) → Reached comparing start now (Some product) old
-    → (ends : (state : Expression) (prod : Prod) → IsPartial state old → IsBehind state → HoldsProd prod product → IsWhole state prod expression new now after)
-    → ((state : Expression) (expr : Expr) → new.first ≡ state.first → new.passed ≡ state.passed → HoldsExpr expr expression → IsWithinLimits state expr tree) → IsExpression comparing tree start after
-expression_read comparing start now after product expression old new tree reached ends finishes =
+pub expression_read : (comparing : Comparing) (start now after : List Spot) (product last : Operand) (old new : Partial) (tree : NamedExpression) → Reached comparing start now (Some product) old
+    → ((state : Expression) (prod : Prod) → IsPartial state old → IsBehind state → HoldsProd prod product → EndsBefore state prod last new now after)
+    → EndsWithin new last tree → IsExpression comparing tree start after
+expression_read comparing start now after product last old new tree reached ends finishes =
     let state = reached.0 in
     let prod = reached.1 in
     let way = reached.5 in
     let end = ends state prod reached.2 reached.3 reached.4 in
-    let within = finishes state (level_expr state.level prod) end.first end.passed end.holds in
+    let within = finishes state prod end.is end.holds in
     subst (IsExpression comparing tree start) (sym end.same) (record {
       expr = level_expr state.level prod;
       reads = record {
-        spells = subst (λ pieces. Spells pieces start now) (whole_pieces state prod end.outer reached.3) way.spells;
+        spells = subst (λ pieces. Spells pieces start now) (whole_pieces state prod within.outer reached.3) way.spells;
         goes = λ behind. way.goes behind ∙ skipped (behind_operand state prod) behind now (end.looks ∙ within.looks);
       };
       is = within.is;
-      within = no_limits (level_expr state.level prod) within.shallow (whole_clear state prod end.outer reached.3 (way.clear within.clear));
-      alone = λ e. (sum_of state.level.sum prod, alone_sum state.level.comparing (sum_of state.level.sum prod) (sym (ap (outermost state.level) end.outer) ∙ way.alone e));
+      within = no_limits (level_expr state.level prod) within.shallow (whole_clear state prod within.outer reached.3 (way.clear within.clear));
+      alone = λ e. (sum_of state.level.sum prod, alone_sum state.level.comparing (sum_of state.level.sum prod) (sym (ap (outermost state.level) within.outer) ∙ way.alone e));
     })
 
-pub limit_told : (cause : Stop) (move : Move) (first : Expected) (behind : List Expected) (spots : List Spot) → TellsLimit cause move → look first (front_of spots).0 (front_of spots).1 ≡ move
-    → Tells cause spots (run (first ∷ behind) spots)
-limit_told cause move first behind spots told looks = grind arith
-
-pub expression_stops : (comparing : Comparing) (start now after : List Spot) (product expression : Operand) (old new : Partial) (cause : Stop) → Reached comparing start now (Some product) old
-    → ((state : Expression) (prod : Prod) → IsPartial state old → IsBehind state → HoldsProd prod product → IsWhole state prod expression new now after)
-    → ((state : Expression) (expr : Expr) → new.first ≡ state.first → new.passed ≡ state.passed → HoldsExpr expr expression → TellsLimit cause (finished state expr)) → Stops (whole comparing ∷ []) start after cause
-expression_stops comparing start now after product expression old new cause reached ends finishes behind =
+pub expression_stops : (comparing : Comparing) (start now after : List Spot) (product last : Operand) (old new : Partial) (cause : Stop) → Reached comparing start now (Some product) old
+    → ((state : Expression) (prod : Prod) → IsPartial state old → IsBehind state → HoldsProd prod product → EndsBefore state prod last new now after)
+    → StopsAtEnd new last cause → Stops (whole comparing ∷ []) start after cause
+expression_stops comparing start now after product last old new cause reached ends finishes behind =
     let state = reached.0 in
     let prod = reached.1 in
     let end = ends state prod reached.2 reached.3 reached.4 in
     subst (λ rest. Tells cause rest (run (whole comparing ∷ behind) start)) (sym end.same) (subst (Tells cause now) (sym (reached.5.goes behind))
-    (limit_told cause _ (behind_operand state prod) behind now (finishes state (level_expr state.level prod) end.first end.passed end.holds) end.looks))
+    (move_told cause _ (behind_operand state prod) behind now (finishes state prod end.is end.holds) end.looks))
 
 -- the first token begins an operand
 pub begins : (comparing : Comparing) (spots : List Spot) (behind : List Expected) → run (whole comparing ∷ behind) spots ≡ run (operand (begun comparing (front_of spots).1) ∷ behind) spots

@@ -1,5 +1,5 @@
 -- Declarations that are read, and the relations after them.
-use Rattle.std.specs.Prelude.{◌≡◌, ℕ, suc, Bool, true, false, List, [], ◌∷◌, ◌++◌, length, Option, Some, None}
+use Rattle.std.specs.Prelude.{◌≡◌, ℕ, suc, Bool, List, [], ◌∷◌, ◌++◌, length, Option, Some, None}
 use Rattle.std.specs.List.{flat_map}
 use Rattle.terms.specs.declared.key.TheConstants.{MAX_COMPONENTS}
 use Rattle.syntax.specs.declared.declarations.Front.{Front}
@@ -17,7 +17,7 @@ use Rattle.syntax.specs.Limits.{name_limits, names_behind}
 use Rattle.syntax.specs.GraphTexts.{all_names, declarations_limits, relation_limits, names_pieces, after_colon, declaration_pieces, relation_pieces, IsDeclaration, IsRelation}
 use Rattle.syntax.specs.Spelled.{Piece, a_sign, sign_at}
 use Rattle.syntax.specs.Tree.{AreAll}
-use Rattle.syntax.specs.Expected.{Kind, item, tag, Expected, exactly, declarations, front as after_bracket, front_named, front_closed, component_name, relations, declared, declared_limits, closing}
+use Rattle.syntax.specs.Expected.{Kind, item, tag, opening, Expected, exactly, declarations, front as after_bracket, front_named, front_closed, component_name, relations, declared, declared_limits, closing}
 use Rattle.syntax.specs.Parsed.{Reads, Stops}
 use Rattle.syntax.specs.NameLists.{IsFull}
 use Rattle.syntax.specs.Relations.{IsRelationRest, reader_rest, prescribed_step}
@@ -45,11 +45,11 @@ abbrev pub relation_rest : Kind → List Expected
 relation_rest item = reader_rest
 relation_rest tag = prescribed_step
 
--- after the closing bracket: the end of a declaration, for which there is room, or a relation
-abbrev pub IsEnd : Kind → ℕ → ℕ → Position → Bool → List Spot → List Spot → Type 0
-IsEnd kind items tags place true before after =
-    Reads (front_closed kind items tags place ∷ []) (declared kind items tags ∷ []) (a_sign sign.Semicolon) before after × (declared_limits kind items tags place ≡ [])
-IsEnd kind items tags place false before after = Reads (front_closed kind items tags place ∷ []) (relation_rest kind ++ relations ∷ []) [] before after
+-- after the closing bracket: the end of a declaration without components, for which there is room, or a relation
+abbrev pub IsEnd : Kind → ℕ → ℕ → Position → Option ℕ → List Spot → List Spot → Type 0
+IsEnd kind items tags place (Some count) before after =
+    Reads (front_closed kind items tags place ∷ []) (declared kind items tags ∷ []) (a_sign sign.Semicolon) before after × (declared_limits kind items tags place ≡ []) × (count ≡ 0)
+IsEnd kind items tags place None before after = Reads (front_closed kind items tags place ∷ []) (relation_rest kind ++ relations ∷ []) [] before after
 
 -- a declaration after its name, with `count` components
 pub record IsDeclaredRest (kind : Kind) (items tags : ℕ) (place : Position) (count : ℕ) (before after : List Spot) : Type 0 where
@@ -81,8 +81,8 @@ IsFront expected one two items tags (begins.Relation tree) before after = IsRela
 -- ---- what is read where there is room for one more collection, or is none, whatever stands before
 
 -- after the closing bracket
-abbrev pub ReadsEnd : Position → Bool → Bool → List Spot → List Spot → Type 0
-ReadsEnd place full ends before after = (kind : Kind) (items tags : ℕ) → IsFullOf kind items tags full → IsEnd kind items tags place ends before after
+abbrev pub ReadsEnd : Position → Bool → Option ℕ → List Spot → List Spot → Type 0
+ReadsEnd place full count before after = (kind : Kind) (items tags : ℕ) → IsFullOf kind items tags full → IsEnd kind items tags place count before after
 
 abbrev pub StopsAtEnd : Position → Bool → List Spot → List Spot → Stop → Type 0
 StopsAtEnd place full before after stop = (kind : Kind) (items tags : ℕ) → IsFullOf kind items tags full → Stops (front_closed kind items tags place ∷ []) before after stop
@@ -95,17 +95,18 @@ abbrev pub StopsBehindName : Symbol → Position → Bool → List Spot → List
 StopsBehindName close place full before after stop = (kind : Kind) (items tags : ℕ) → close ≡ closing kind → IsFullOf kind items tags full
     → Stops (front_named kind items tags place ∷ []) before after stop
 
--- after the opening bracket of an item, which is at this place, and of a tag
-abbrev pub ReadsItemFront : Position → Bool → Front → List Spot → List Spot → Type 0
-ReadsItemFront place full begun before after = (items tags : ℕ) → IsFullOf item items tags full
-    → IsFront (after_bracket item items tags ∷ []) (a_sign sign.OpenBracket) (sign_at place sign.OpenBracket) items tags begun before after
+-- the opening bracket of a relation that begins with a collection: its place is kept before an item
+abbrev pub opening_at : Kind → Position → List Piece
+opening_at item place = sign_at place sign.OpenBracket
+opening_at tag place = a_sign sign.Less
 
-abbrev pub ReadsTagFront : Bool → Front → List Spot → List Spot → Type 0
-ReadsTagFront full begun before after = (items tags : ℕ) → IsFullOf tag items tags full
-    → IsFront (after_bracket tag items tags ∷ []) (a_sign sign.Less) (a_sign sign.Less) items tags begun before after
+-- after the opening bracket, which is at this place, with this closing bracket
+abbrev pub ReadsFront : Symbol → Position → Bool → Front → List Spot → List Spot → Type 0
+ReadsFront close place full begun before after = (kind : Kind) → close ≡ closing kind → (items tags : ℕ) → IsFullOf kind items tags full
+    → IsFront (after_bracket kind items tags ∷ []) (a_sign (opening kind)) (opening_at kind place) items tags begun before after
 
-abbrev pub StopsAtFront : Kind → Bool → List Spot → List Spot → Stop → Type 0
-StopsAtFront kind full before after stop = (items tags : ℕ) → IsFullOf kind items tags full → Stops (after_bracket kind items tags ∷ []) before after stop
+abbrev pub StopsAtFront : Symbol → Bool → List Spot → List Spot → Stop → Type 0
+StopsAtFront close full before after stop = (kind : Kind) → close ≡ closing kind → (items tags : ℕ) → IsFullOf kind items tags full → Stops (after_bracket kind items tags ∷ []) before after stop
 
 -- ---- all declarations
 

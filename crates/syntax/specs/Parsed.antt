@@ -1,5 +1,5 @@
 -- What a part of the parser reads: the tokens before and after it, and where it stops.
-use Rattle.std.specs.Prelude.{◌≡◌, ⊤, Bool, true, false, List, [], ◌∷◌, ◌++◌, drop, Option, Some, None}
+use Rattle.std.specs.Prelude.{◌≡◌, ⊤, Bool, true, false, List, [], ◌∷◌, ◌++◌, drop}
 use Rattle.steptree.specs.declared.step.Name.{Name}
 use Rattle.syntax.specs.declared.cursor.Cursor.{Cursor}
 use Rattle.syntax.specs.declared.stop.Stop.{Stop}
@@ -9,11 +9,11 @@ use Rattle.syntax.specs.declared.token.Word.{Word}
 use Rattle.syntax.specs.Tokens.{Lexeme, symbol, word, Spot, spots_of}
 use Rattle.syntax.specs.Grammar.{Position, Named}
 use Rattle.syntax.specs.Spelled.{Piece, plain, named, IsPiece}
-use Rattle.syntax.specs.Expected.{Expected, Verdict, syntax, too_large, run, look, look_if, look_if_word}
+use Rattle.syntax.specs.Expected.{Expected, Verdict, syntax, too_large, run, Move, wrong, passed, look, look_if, look_if_word}
 
 -- the tokens that are left
 abbrev pub left : Cursor → List Spot
-left cursor = spots_of (drop cursor.passed cursor.tokens.now)
+left cursor = spots_of (drop cursor.passed cursor.tokens.items)
 
 abbrev pub named_of : Name → Named
 named_of it = (it.text.now, it.place)
@@ -49,10 +49,11 @@ Tells (stop.TooLarge place) rest verdict = verdict ≡ too_large place
 abbrev pub Stops : List Expected → List Spot → List Spot → Stop → Type 0
 Stops expected before after cause = (behind : List Expected) → Tells cause after (run (expected ++ behind) before)
 
--- the verdict where an expression breaks off, with the first limit passed in it before, if there is one
-abbrev pub BreaksOff : Option Position → List Spot → Verdict → Type 0
-BreaksOff None rest verdict = verdict ≡ syntax rest
-BreaksOff (Some place) rest verdict = verdict ≡ too_large place
+-- the parser stops as this move says: the token is wrong, or a limit is passed; no move is for memory that was refused
+abbrev pub TellsMove : Stop → Move → Type 0
+TellsMove stop.NoMemory move = ⊥
+TellsMove stop.Syntax move = move ≡ wrong
+TellsMove (stop.TooLarge place) move = move ≡ passed place
 
 -- whether an optional sign is taken: if so, what follows it may come; if not, all that it would begin is left out
 abbrev pub TakenIf : Symbol → Bool → List Spot → List Spot → Type 0

@@ -1,5 +1,5 @@
 -- An expression while it is read: what the parser keeps of it, the pieces read so far, and the limits passed so far.
-use Rattle.std.specs.Prelude.{◌≡◌, ◌≢◌, ◌⊎◌, ◌<◌, ◌≤◌, ⊤, ℕ, Bool, true, false, List, [], ◌∷◌, ◌++◌, length, reverse, Option, Some, None}
+use Rattle.std.specs.Prelude.{◌≡◌, ◌⊎◌, ◌<◌, ◌≤◌, ⊤, ℕ, Bool, true, false, List, [], ◌∷◌, ◌++◌, length, reverse, Option, Some, None}
 use Rattle.steptree.specs.declared.expression.Operator.{Operator}
 use Rattle.steptree.specs.Tree.{NamedExpression}
 use Rattle.syntax.specs.declared.limits.TheConstants.{MOST_DEPTH, MOST_BRACKETS}
@@ -9,7 +9,7 @@ use Rattle.syntax.specs.declared.operand.Pending.{Pending}
 use Rattle.syntax.specs.declared.partial.Level.{Level as Kept_level}
 use Rattle.syntax.specs.declared.partial.Partial.{Partial}
 use Rattle.syntax.specs.declared.partial.After.{After}
-use Rattle.syntax.specs.declared.partial.After.TheVariants.{AwaitsOperand, HasProduct, Whole}
+use Rattle.syntax.specs.declared.partial.After.TheVariants.{AwaitsOperand, HasProduct, Ends}
 use Rattle.syntax.specs.declared.stop.Stop.{Stop}
 use Rattle.syntax.specs.declared.token.Symbol.TheVariants as sign
 use Rattle.syntax.specs.Tokens.{Spot}
@@ -17,10 +17,10 @@ use Rattle.syntax.specs.Grammar.{Position, Expr, Comparison, compared, Sum, Addi
 use Rattle.syntax.specs.Limits.{expr_depth, sum_depth, prod_depth, unary_depth, sum_within, prod_within, one_more}
 use Rattle.syntax.specs.Spelled.{Piece, a_sign, sign_at, sum_pieces, prod_pieces, comparison_sign, addition_sign, multiplication_sign}
 use Rattle.syntax.specs.Tree.{IsExpr, IsSum, IsProd, IsUnary, AreAll, comparison_operator, addition_operator, multiplication_operator}
-use Rattle.syntax.specs.Expected.{Comparing, never, possible, behind_left, Level, Expression, Expected, operand, behind_operand, negated_by, product_of, sum_of, compared_of, level_expr, look, finished, Verdict}
+use Rattle.syntax.specs.Expected.{Comparing, never, possible, behind_left, Level, Expression, Expected, operand, behind_operand, negated_by, product_of, sum_of, compared_of, level_expr, look, look_end}
 use Rattle.syntax.specs.Expected.{without_product, product_behind, closed}
 use Rattle.syntax.specs.Front.{front_of}
-use Rattle.syntax.specs.Parsed.{Spells, Goes, BreaksOff, Tells, Stops}
+use Rattle.syntax.specs.Parsed.{Spells, Goes, Stops}
 
 -- ---- operands
 
@@ -223,28 +223,22 @@ Follows from before after None kept = (state : Expression) × IsPartial state ke
 Follows from before after (Some product) kept =
     (state : Expression) × (prod : Prod) × IsPartial state kept × IsBehind state × HoldsProd prod product × Onward from (behind_operand state prod) before after
 
--- the expression is whole before a token that is not taken
-pub record IsWhole (state : Expression) (prod : Prod) (expression : Operand) (kept : Partial) (before after : List Spot) : Type 0 where
+-- the next token is not taken: the expression ends with this product, or breaks off if a bracket is open
+pub record EndsBefore (state : Expression) (prod : Prod) (last : Operand) (kept : Partial) (before after : List Spot) : Type 0 where
   pub same : after ≡ before
-  pub first : kept.first ≡ state.first
-  pub passed : kept.passed ≡ state.passed
-  pub outer : state.outer ≡ []
-  pub holds : HoldsExpr (level_expr state.level prod) expression
-  pub looks : look (behind_operand state prod) (front_of before).0 (front_of before).1 ≡ finished state (level_expr state.level prod)
+  pub is : IsPartial state kept
+  pub holds : HoldsProd prod last
+  pub looks : look (behind_operand state prod) (front_of before).0 (front_of before).1 ≡ look_end state state.outer prod
 
 abbrev pub GoesOn : Expression → Prod → List Spot → List Spot → After → Partial → Type 0
 GoesOn state prod before after AwaitsOperand kept = Follows (behind_operand state prod) before after None kept
 GoesOn state prod before after (HasProduct product) kept = Follows (behind_operand state prod) before after (Some product) kept
-GoesOn state prod before after (Whole expression) kept = IsWhole state prod expression kept before after
+GoesOn state prod before after (Ends last) kept = EndsBefore state prod last kept before after
 
--- a token is taken unless the expression is whole
+-- a token is taken unless the expression ends or breaks off
 abbrev pub Fewer : After → ℕ → ℕ → Type 0
-Fewer (Whole expression) before after = after ≤ before
+Fewer (Ends last) before after = after ≤ before
 Fewer other before after = after < before
-
--- the expression ends with this product, outside all brackets
-abbrev pub EndsAs : Expression → Prod → Operand → Partial → Type 0
-EndsAs state prod expression kept = (kept.first ≡ state.first) × (kept.passed ≡ state.passed) × (state.outer ≡ []) × HoldsExpr (level_expr state.level prod) expression
 
 -- the expression, after the level around its innermost one was taken out: that level is `around`
 pub record IsAround (state : Expression) (kept : Partial) (level : Level) (outer : List (Level × Position)) (around : Kept_level) : Type 0 where
@@ -275,9 +269,9 @@ abbrev pub ClosesBracket : Partial → Kept_level → Operand → Partial → Op
 ClosesBracket old around product new outside = (state : Expression) (prod : Prod) (level : Level) (place : Position) (outer : List (Level × Position)) → IsAround state old level outer around → HoldsProd prod product
     → IsPartial (without_product (closed state level outer)) new × HoldsProd (product_behind (closed state level outer) (bracketed place (level_expr state.level prod))) outside
 
--- a product ends the expression
-abbrev pub EndsExpression : Partial → Operand → Partial → Operand → Type 0
-EndsExpression old product new expression = (state : Expression) (prod : Prod) → IsPartial state old → HoldsProd prod product → EndsAs state prod expression new
+-- this holds of each expression of which this is kept, and this as its last product
+abbrev pub OfEnd : Partial → Operand → (Expression → Prod → Type 0) → Type 0
+OfEnd kept product Holds = (state : Expression) (prod : Prod) → IsPartial state kept → HoldsProd prod product → Holds state prod
 
 -- a token of an operand was taken, or the parser stops at it
 abbrev pub TakesOperand : Partial → Partial → List Spot → List Spot → Option Operand → Type 0
@@ -286,17 +280,6 @@ TakesOperand old new before after product = (state : Expression) → IsPartial s
 abbrev pub StopsAtOperand : Partial → List Spot → List Spot → Stop → Type 0
 StopsAtOperand old before after stop = (state : Expression) → IsPartial state old → Stops (operand state ∷ []) before after stop
 
--- after an operand, a token was taken unless the expression is whole, or the parser stops at it
+-- after an operand, a token was taken unless the expression ends or breaks off
 abbrev pub TakesJoint : Partial → Operand → Partial → List Spot → List Spot → After → Type 0
 TakesJoint old product new before after how = (state : Expression) (prod : Prod) → IsPartial state old → IsBehind state → HoldsProd prod product → GoesOn state prod before after how new
-
-abbrev pub StopsAtJoint : Partial → List Spot → List Spot → Stop → Type 0
-StopsAtJoint old before after stop = (state : Expression) (prod : Prod) → IsPartial state old → Stops (behind_operand state prod ∷ []) before after stop
-
--- the stop tells the verdict where the expression breaks off
-abbrev pub TellsBreak : Partial → Stop → Type 0
-TellsBreak kept stop = (state : Expression) (rest : List Spot) (verdict : Verdict) → IsPartial state kept → BreaksOff state.passed rest verdict → Tells stop rest verdict
-
--- the stop tells the verdict where the expression ends within a bracket, and so breaks off
-abbrev pub TellsOpenBracket : Partial → Stop → Type 0
-TellsOpenBracket kept stop = (state : Expression) (rest : List Spot) (verdict : Verdict) → IsPartial state kept → (state.outer ≢ [] → BreaksOff state.passed rest verdict) → Tells stop rest verdict

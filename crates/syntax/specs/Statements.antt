@@ -1,5 +1,5 @@
 -- Blocks that are read, statement by statement.
-use Rattle.std.specs.Prelude.{◌≡◌, ℕ, suc, List, [], ◌∷◌, ◌++◌, Option, Some, None, MatchOption}
+use Rattle.std.specs.Prelude.{◌≡◌, ℕ, suc, List, [], ◌∷◌, ◌++◌, Option, Some, None}
 use Rattle.std.specs.List.{flat_map}
 use Rattle.steptree.specs.Tree.{NamedExpression, End}
 use Rattle.steptree.specs.Simple.{NamedSimple, NamedBlock}
@@ -20,7 +20,7 @@ use Rattle.syntax.specs.Spelled.{Piece, a_sign, a_word, sign_at, in_braces_at, e
 use Rattle.syntax.specs.Tree.{IsExpr, IsStatement, AreStatements, AreAll}
 use Rattle.syntax.specs.Expected.{Part, reading, writing, Expected, exactly, keyword, a_name, whole, possible, statements, nested_brace, nested, or_else, put_target, get_rest, left_out, look_statement}
 use Rattle.syntax.specs.Blocks.{assignment_rest}
-use Rattle.syntax.specs.Parsed.{Goes, Reads}
+use Rattle.syntax.specs.Parsed.{Reads}
 
 -- ---- the parts of a step
 
@@ -114,16 +114,6 @@ IsChoiceRead part around = IsStatementRead part around (choice_expected part aro
 
 abbrev pub IsRepetitionRead : Part → ℕ → NamedStatement → List Spot → List Spot → Type 0
 IsRepetitionRead part around = IsStatementRead part around (repetition_expected part around) []
-
--- no statement begins here
-pub record NoneBegins (part : Part) (around : ℕ) (before after : List Spot) : Type 0 where
-  pub same : after ≡ before
-  pub goes : Goes (statements part around ∷ []) [] before after
-
--- one statement of a block, if one begins here
-abbrev pub IsStatementOrNone : Part → ℕ → Option NamedStatement → List Spot → List Spot → Type 0
-IsStatementOrNone part around found before after = MatchOption found (NoneBegins part around before after)
-    (λ tree. IsStatementRead part around (statements part around ∷ []) (statements part around ∷ []) tree before after)
 
 -- ---- parts of a statement
 

@@ -4,15 +4,14 @@ use Rattle.steptree.specs.Tree.{NamedExpression}
 use Rattle.syntax.specs.declared.operand.Operand.{Operand}
 use Rattle.syntax.specs.declared.partial.Partial.{Partial}
 use Rattle.syntax.specs.declared.stop.Stop.{Stop}
-use Rattle.syntax.specs.declared.stop.Stop.TheVariants as stop
 use Rattle.syntax.specs.Tokens.{Spot}
 use Rattle.syntax.specs.Grammar.{Position, Expr, Sum, sum_alone, Prod}
 use Rattle.syntax.specs.Limits.{expr_limits, expr_depth, depth_limits}
 use Rattle.syntax.specs.Spelled.{expr_pieces}
 use Rattle.syntax.specs.Tree.{IsExpr}
-use Rattle.syntax.specs.Expected.{Comparing, never, Expression, Expected, whole, operand, behind_operand, Move, left_out, passed, finished}
-use Rattle.syntax.specs.Parsed.{Spells, Goes, Reads, Stops}
-use Rattle.syntax.specs.Partial.{HoldsExpr, HoldsProd, WhereFresh, IsPartial, IsBehind, IsClear, IsSumAlone, read_so_far}
+use Rattle.syntax.specs.Expected.{Comparing, never, Expression, Expected, whole, operand, behind_operand, level_expr, look_end, left_out}
+use Rattle.syntax.specs.Parsed.{Spells, Goes, Reads, Stops, TellsMove}
+use Rattle.syntax.specs.Partial.{HoldsProd, WhereFresh, OfEnd, IsPartial, IsBehind, IsClear, IsSumAlone, read_so_far}
 
 -- the tokens are an expression within the limits, and `tree` is its tree
 pub record IsExpression (comparing : Comparing) (tree : NamedExpression) (before after : List Spot) : Type 0 where
@@ -29,22 +28,20 @@ ReadsExpression may_compare tree before after = WhereFresh may_compare (λ compa
 abbrev pub StopsInExpression : Bool → List Spot → List Spot → Stop → Type 0
 StopsInExpression may_compare before after stop = WhereFresh may_compare (λ comparing. Stops (whole comparing ∷ []) before after stop)
 
--- a limit is passed, and the parser stops at it
-abbrev pub TellsLimit : Stop → Move → Type 0
-TellsLimit (stop.TooLarge place) move = move ≡ passed place
-TellsLimit stop.Syntax move = ⊥
-TellsLimit stop.NoMemory move = ⊥
-
--- a whole expression that is within the limits, and its tree
-pub record IsWithinLimits (state : Expression) (expr : Expr) (tree : NamedExpression) : Type 0 where
-  pub is : IsExpr expr tree
-  pub looks : finished state expr ≡ left_out
-  pub shallow : (place : Position) → depth_limits (expr_depth expr) place ≡ []
+-- a product ends the expression, which is within the limits and has this tree
+pub record IsWithinLimits (state : Expression) (prod : Prod) (tree : NamedExpression) : Type 0 where
+  pub outer : state.outer ≡ []
+  pub is : IsExpr (level_expr state.level prod) tree
+  pub looks : look_end state state.outer prod ≡ left_out
+  pub shallow : (place : Position) → depth_limits (expr_depth (level_expr state.level prod)) place ≡ []
   pub clear : state.passed ≡ None
 
--- this holds of each expression of which this is kept, and that is whole with this operand
-abbrev pub OfWhole : Partial → Operand → (Expression → Expr → Type 0) → Type 0
-OfWhole kept expression Holds = (state : Expression) (expr : Expr) → kept.first ≡ state.first → kept.passed ≡ state.passed → HoldsExpr expr expression → Holds state expr
+-- what comes of an expression with this last product: its tree, or where it breaks off or passes a limit
+abbrev pub EndsWithin : Partial → Operand → NamedExpression → Type 0
+EndsWithin kept product tree = OfEnd kept product (λ state prod. IsWithinLimits state prod tree)
+
+abbrev pub StopsAtEnd : Partial → Operand → Stop → Type 0
+StopsAtEnd kept product stop = OfEnd kept product (λ state prod. TellsMove stop (look_end state state.outer prod))
 
 -- ---- on the way
 

@@ -4,17 +4,19 @@ ghost use Rattle.syntax.specs.Natural.{all_natural};
 
 use crate::stop::Stop;
 use crate::{MOST_NAME_BYTES, Placed, Symbol, Token, Word};
+use std::alloc::Global;
 use steptree::Name;
 
-/// The tokens of a text, and how many of them were taken.
+/// The tokens of a text, how many of them were taken, and the allocator of what is read.
 #[derive(Drop)]
-pub(crate) struct Cursor<'t, 'a> {
-    pub(crate) tokens: &'t [Placed<'a>],
+pub(crate) struct Cursor<'a> {
+    pub(crate) alloc: Global,
+    pub(crate) tokens: Vec<Placed<'a>>,
     pub(crate) passed: usize,
-    ghost natural: { all_natural tokens.now ≡ true },
+    ghost natural: { all_natural tokens.items ≡ true },
 }
 
-impl<'t, 'a> Cursor<'t, 'a> {
+impl<'a> Cursor<'a> {
     ghost use Rattle.std.specs.Prelude.{◌∷◌, false, [], ◌≤◌, ◌<◌, ◌==◌, length, map, get_or, IfOk, IfErr, OnOk};
     ghost use Rattle.syntax.specs.Tokens.{spots_of, lexeme_of, word, symbol};
     ghost use Rattle.syntax.specs.Limits.{name_limits};
@@ -24,11 +26,15 @@ impl<'t, 'a> Cursor<'t, 'a> {
     ghost use Rattle.syntax.specs.Front.{front_of, behind_front};
 
     /// A cursor before the first of these tokens, which are those of a text.
-    pub(crate) fn begin(tokens: &'t [Placed<'a>]) -> Cursor<'t, 'a>
-        requires { all_natural tokens.now ≡ true }
-        ensures { left result ≡ spots_of tokens.now }
+    pub(crate) fn begin(alloc: Global, tokens: Vec<Placed<'a>>) -> Cursor<'a>
+        requires { all_natural tokens.items ≡ true }
+        ensures { left result ≡ spots_of tokens.entry.items }
     {
-        Cursor { tokens, passed: 0 }
+        Cursor {
+            alloc,
+            tokens,
+            passed: 0,
+        }
     }
 
     /// The next token; at the end an unknown one.
@@ -80,7 +86,6 @@ impl<'t, 'a> Cursor<'t, 'a> {
     /// Takes this sign.
     pub(crate) fn sign(&mut self, sign: Symbol) -> Result<(), Stop>
         ensures reads { OnOk result (ReadsToken (exactly sign) (symbol sign) (left self.old) (left self.new)) }
-        ensures fewer { OnOk result (length (left self.new) < length (left self.old)) }
         ensures stops { IfErr result (Stops (exactly sign ∷ []) (left self.old) (left self.new)) }
     {
         match self.front() {
@@ -95,7 +100,6 @@ impl<'t, 'a> Cursor<'t, 'a> {
     /// Takes this reserved word.
     pub(crate) fn keyword(&mut self, keyword: Word) -> Result<(), Stop>
         ensures reads { OnOk result (ReadsToken (reserved keyword) (word keyword) (left self.old) (left self.new)) }
-        ensures fewer { OnOk result (length (left self.new) < length (left self.old)) }
         ensures stops { IfErr result (Stops (reserved keyword ∷ []) (left self.old) (left self.new)) }
     {
         match self.front() {
@@ -111,7 +115,6 @@ impl<'t, 'a> Cursor<'t, 'a> {
     pub(crate) fn name(&mut self) -> Result<Name<'a>, Stop>
         ensures reads { IfOk result (λ name. ReadsName a_name name (left self.old) (left self.new)) }
         ensures within { IfOk result (λ name. name_limits (named_of name) ≡ []) }
-        ensures fewer { OnOk result (length (left self.new) < length (left self.old)) }
         ensures stops { IfErr result (Stops (a_name ∷ []) (left self.old) (left self.new)) }
     {
         let place = self.place();

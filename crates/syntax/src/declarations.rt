@@ -1,8 +1,8 @@
 //! Declarations, from the beginning of a text up to the first relation.
-ghost use Rattle.std.specs.Prelude.{◌<◌, ◌≤◌, ◌∷◌, [], length, IfOk, IfErr, IfSome, OnOk};
-ghost use Rattle.syntax.specs.Expected.{item as item_kind, tag as tag_kind, declarations as some_declarations, relations as some_relations};
+ghost use Rattle.std.specs.Prelude.{◌<◌, ◌≤◌, ◌∷◌, [], length, IfOk, IfErr, OnOk};
+ghost use Rattle.syntax.specs.Expected.{declarations as some_declarations, relations as some_relations};
 ghost use Rattle.syntax.specs.Parsed.{left, Stops};
-ghost use Rattle.syntax.specs.Declarations.{components_rest, IsComponentsRest, ReadsEnd, StopsAtEnd, ReadsBehindName, StopsBehindName, ReadsItemFront, ReadsTagFront, StopsAtFront, IsFrontOrNone, IsPreamble};
+ghost use Rattle.syntax.specs.Declarations.{components_rest, IsComponentsRest, ReadsEnd, StopsAtEnd, ReadsBehindName, StopsBehindName, ReadsFront, StopsAtFront, IsFrontOrNone, IsPreamble};
 
 use crate::cursor::Cursor;
 use crate::name_lists::component_names;
@@ -10,7 +10,6 @@ use crate::preamble::Preamble;
 use crate::relations::{behind_item, behind_tag};
 use crate::stop::Stop;
 use crate::{Declaration, Relation, Symbol, Token};
-use std::alloc::Global;
 use steptree::{MOST_COLLECTIONS, Name};
 
 /// A declaration, or a relation that begins like one.
@@ -22,9 +21,8 @@ pub(crate) enum Front<'a> {
 }
 
 // How many components are declared, after the colon; the closing bracket and the semicolon are read too.
-fn components(cursor: &mut Cursor<'_, '_>, close: Symbol) -> Result<usize, Stop>
+fn components(cursor: &mut Cursor<'_>, close: Symbol) -> Result<usize, Stop>
     ensures reads { IfOk result (λ count. IsComponentsRest close count (left cursor.old) (left cursor.new)) }
-    ensures fewer { OnOk result (length (left cursor.new) < length (left cursor.old)) }
     ensures stops { IfErr result (Stops (components_rest close) (left cursor.old) (left cursor.new)) }
 {
     let count = component_names(cursor)?;
@@ -33,9 +31,14 @@ fn components(cursor: &mut Cursor<'_, '_>, close: Symbol) -> Result<usize, Stop>
     Ok(count)
 }
 
-// Whether a declaration ends here, after its closing bracket. Its collection is named at `place`.
-fn ends(cursor: &mut Cursor<'_, '_>, place: usize, full: bool) -> Result<bool, Stop>
-    ensures reads { IfOk result (λ ends. ReadsEnd place full ends (left cursor.old) (left cursor.new)) }
+// After the closing bracket of a collection that is named at `place`: `Some(0)` if a declaration without components ends
+// here, `None` if a relation goes on.
+fn without_components(
+    cursor: &mut Cursor<'_>,
+    place: usize,
+    full: bool,
+) -> Result<Option<usize>, Stop>
+    ensures reads { IfOk result (λ count. ReadsEnd place full count (left cursor.old) (left cursor.new)) }
     ensures fewer { length (left cursor.new) ≤ length (left cursor.old) }
     ensures stops { IfErr result (StopsAtEnd place full (left cursor.old) (left cursor.new)) }
 {
@@ -45,15 +48,15 @@ fn ends(cursor: &mut Cursor<'_, '_>, place: usize, full: bool) -> Result<bool, S
                 return Err(Stop::TooLarge(place));
             }
             cursor.advance();
-            Ok(true)
+            Ok(Some(0))
         }
-        _ => Ok(false),
+        _ => Ok(None),
     }
 }
 
 // How many components are declared, after a name at `place`; `None` if a relation goes on after the closing bracket.
 fn behind_name(
-    cursor: &mut Cursor<'_, '_>,
+    cursor: &mut Cursor<'_>,
     close: Symbol,
     place: usize,
     full: bool,
@@ -73,84 +76,73 @@ fn behind_name(
         }
         _ => {
             cursor.sign(close)?;
-            if ends(cursor, place, full)? {
-                Ok(Some(0))
-            } else {
-                Ok(None)
-            }
+            without_components(cursor, place, full)
         }
     }
 }
 
-// A declared item, or a relation that begins with an item, after the bracket at `place`.
-fn item_front<'a>(cursor: &mut Cursor<'_, 'a>, place: usize, full: bool) -> Result<Front<'a>, Stop>
-    ensures reads { IfOk result (λ front. ReadsItemFront place full front (left cursor.old) (left cursor.new)) }
-    ensures fewer { OnOk result (length (left cursor.new) < length (left cursor.old)) }
-    ensures stops { IfErr result (StopsAtFront item_kind full (left cursor.old) (left cursor.new)) }
+// A declared collection, or a relation that begins with one, after the bracket at `place`, which `close` closes.
+fn collection<'a>(
+    cursor: &mut Cursor<'a>,
+    close: Symbol,
+    place: usize,
+    full: bool,
+) -> Result<Front<'a>, Stop>
+    ensures reads { IfOk result (λ front. ReadsFront close place full front (left cursor.old) (left cursor.new)) }
+    ensures stops { IfErr result (StopsAtFront close full (left cursor.old) (left cursor.new)) }
 {
     let name = cursor.name()?;
-    match behind_name(cursor, Symbol::CloseBracket, name.place, full)? {
-        Some(components) => Ok(Front::Item { name, components }),
-        None => {
-            let relation = behind_item(cursor, place, name)?;
-            Ok(Front::Relation(relation))
-        }
-    }
-}
-
-// A declared tag, or a prescription, after the bracket.
-fn tag_front<'a>(cursor: &mut Cursor<'_, 'a>, full: bool) -> Result<Front<'a>, Stop>
-    ensures reads { IfOk result (λ front. ReadsTagFront full front (left cursor.old) (left cursor.new)) }
-    ensures fewer { OnOk result (length (left cursor.new) < length (left cursor.old)) }
-    ensures stops { IfErr result (StopsAtFront tag_kind full (left cursor.old) (left cursor.new)) }
-{
-    let name = cursor.name()?;
-    match behind_name(cursor, Symbol::Greater, name.place, full)? {
-        Some(components) => Ok(Front::Tag { name, components }),
-        None => {
-            let relation = behind_tag(cursor, name)?;
-            Ok(Front::Relation(relation))
-        }
+    let Some(components) = behind_name(cursor, close, name.place, full)? else {
+        let relation = if close == Symbol::CloseBracket {
+            behind_item(cursor, place, name)
+        } else {
+            behind_tag(cursor, name)
+        }?;
+        return Ok(Front::Relation(relation));
+    };
+    if close == Symbol::CloseBracket {
+        Ok(Front::Item { name, components })
+    } else {
+        Ok(Front::Tag { name, components })
     }
 }
 
 // A declaration, or a relation that begins like one, with `items` items and `tags` tags declared before.
 fn next_front<'a>(
-    cursor: &mut Cursor<'_, 'a>,
+    cursor: &mut Cursor<'a>,
     items: usize,
     tags: usize,
 ) -> Result<Option<Front<'a>>, Stop>
     ensures reads { IfOk result (λ front. IsFrontOrNone items tags front (left cursor.old) (left cursor.new)) }
-    ensures fewer { IfOk result (λ front. IfSome front (λ _. length (left cursor.new) < length (left cursor.old))) }
     ensures stops { IfErr result (Stops (some_declarations items tags ∷ []) (left cursor.old) (left cursor.new)) }
 {
     let place = cursor.place();
-    match cursor.front() {
+    let front = match cursor.front() {
         Token::Symbol(Symbol::OpenBracket) => {
             cursor.advance();
-            let front = item_front(cursor, place, items >= MOST_COLLECTIONS)?;
-            Ok(Some(front))
+            collection(
+                cursor,
+                Symbol::CloseBracket,
+                place,
+                items >= MOST_COLLECTIONS,
+            )
         }
         Token::Symbol(Symbol::Less) => {
             cursor.advance();
-            let front = tag_front(cursor, tags >= MOST_COLLECTIONS)?;
-            Ok(Some(front))
+            collection(cursor, Symbol::Greater, place, tags >= MOST_COLLECTIONS)
         }
-        _ => Ok(None),
-    }
+        _ => return Ok(None),
+    }?;
+    Ok(Some(front))
 }
 
 /// Declarations from the beginning of a text, and the first relation if it begins like a declaration.
-pub(crate) fn declarations<'a>(
-    alloc: Global,
-    cursor: &mut Cursor<'_, 'a>,
-) -> Result<Preamble<'a>, Stop>
+pub(crate) fn declarations<'a>(cursor: &mut Cursor<'a>) -> Result<Preamble<'a>, Stop>
     ensures reads { IfOk result (λ read. IsPreamble (some_relations ∷ []) read (left cursor.old) (left cursor.new)) }
-    ensures fewer { OnOk result (length (left cursor.new) ≤ length (left cursor.old)) }
     ensures stops { IfErr result (Stops (some_declarations 0 0 ∷ []) (left cursor.old) (left cursor.new)) }
 {
-    let mut declarations = Vec::new(alloc);
-    let mut relations = Vec::new(alloc);
+    let mut declarations = Vec::new(cursor.alloc);
+    let mut relations = Vec::new(cursor.alloc);
     let mut items = 0;
     let mut tags = 0;
     loop {

@@ -7,7 +7,6 @@ ghost use Rattle.syntax.specs.Whole.{IsExpression, ReadsExpression, StopsInExpre
 use crate::cursor::Cursor;
 use crate::partial::{After, Partial};
 use crate::stop::Stop;
-use std::alloc::Global;
 use steptree::NamedExpression;
 
 /// An expression, or a component of a key, which has no comparison outside brackets.
@@ -15,36 +14,31 @@ use steptree::NamedExpression;
 /// If a whole expression is too deep, the error is at its first token. Otherwise the error is at the first limit that is
 /// passed within the expression, also if the expression breaks off.
 pub(crate) fn expression<'a>(
-    alloc: Global,
-    cursor: &mut Cursor<'_, 'a>,
+    cursor: &mut Cursor<'a>,
     may_compare: bool,
 ) -> Result<NamedExpression<'a>, Stop>
     ensures reads { IfOk result (λ tree. ReadsExpression may_compare tree (left cursor.old) (left cursor.new)) }
     ensures fewer { OnOk result (length (left cursor.new) < length (left cursor.old)) }
     ensures stops { IfErr result (StopsInExpression may_compare (left cursor.old) (left cursor.new)) }
 {
-    let mut partial = Partial::begun(alloc, may_compare, cursor.place());
+    let mut partial = Partial::begun(cursor.alloc, may_compare, cursor.place());
     let mut product = None;
     loop {
         match product {
-            None => product = partial.begin(alloc, cursor)?,
-            Some(operand) => match partial.go_on(alloc, cursor, operand)? {
+            None => product = partial.begin(cursor)?,
+            Some(operand) => match partial.go_on(cursor, operand)? {
                 After::AwaitsOperand => product = None,
                 After::HasProduct(operand) => product = Some(operand),
-                After::Whole(expression) => return Ok(partial.finish(expression)?),
+                After::Ends(product) => return partial.finish(cursor.alloc, product)?,
             },
         }
     }
 }
 
 /// A whole expression of a statement.
-pub(crate) fn value<'a>(
-    alloc: Global,
-    cursor: &mut Cursor<'_, 'a>,
-) -> Result<NamedExpression<'a>, Stop>
+pub(crate) fn value<'a>(cursor: &mut Cursor<'a>) -> Result<NamedExpression<'a>, Stop>
     ensures reads { IfOk result (λ tree. IsExpression possible tree (left cursor.old) (left cursor.new)) }
-    ensures fewer { OnOk result (length (left cursor.new) < length (left cursor.old)) }
     ensures stops { IfErr result (Stops (whole possible ∷ []) (left cursor.old) (left cursor.new)) }
 {
-    expression(alloc, cursor, true)
+    expression(cursor, true)
 }

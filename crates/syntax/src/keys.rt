@@ -1,5 +1,5 @@
 //! Keys of items and tags.
-ghost use Rattle.std.specs.Prelude.{◌<◌, ◌≤◌, ◌∷◌, [], length, IfOk, IfErr, OnOk};
+ghost use Rattle.std.specs.Prelude.{◌<◌, ◌∷◌, [], length, IfOk, IfErr, OnOk};
 ghost use Rattle.syntax.specs.Expected.{components as some_components, item as item_kind, tag as tag_kind, key_rest};
 ghost use Rattle.syntax.specs.Parsed.{left, Stops};
 ghost use Rattle.syntax.specs.Keys.{AreComponents, IsKeyRest, ClosedBy};
@@ -8,7 +8,6 @@ use crate::Symbol;
 use crate::cursor::Cursor;
 use crate::expressions::expression;
 use crate::stop::Stop;
-use std::alloc::Global;
 use steptree::{Name, NamedExpression};
 
 /// An item or a tag with names: its collection, and the expressions of its components.
@@ -19,20 +18,16 @@ pub(crate) struct NamedKey<'a> {
 }
 
 // The components after the name of a key: none, or a colon and at least one.
-fn components<'a>(
-    alloc: Global,
-    cursor: &mut Cursor<'_, 'a>,
-) -> Result<Vec<NamedExpression<'a>>, Stop>
+fn components<'a>(cursor: &mut Cursor<'a>) -> Result<Vec<NamedExpression<'a>>, Stop>
     ensures reads { IfOk result (λ expressions. AreComponents expressions.items (left cursor.old) (left cursor.new)) }
-    ensures fewer { OnOk result (length (left cursor.new) ≤ length (left cursor.old)) }
     ensures stops { IfErr result (Stops (some_components ∷ []) (left cursor.old) (left cursor.new)) }
 {
-    let mut components = Vec::new(alloc);
+    let mut components = Vec::new(cursor.alloc);
     if !cursor.takes(Symbol::Colon) {
         return Ok(components);
     }
     loop {
-        let component = expression(alloc, cursor, false)?;
+        let component = expression(cursor, false)?;
         components.reserve(1)?;
         components.push_reserved(component);
         if !cursor.takes(Symbol::Comma) {
@@ -42,13 +37,13 @@ fn components<'a>(
 }
 
 // A key after its opening bracket, with the closing bracket `close`.
-fn key<'a>(alloc: Global, cursor: &mut Cursor<'_, 'a>, close: Symbol) -> Result<NamedKey<'a>, Stop>
+fn key<'a>(cursor: &mut Cursor<'a>, close: Symbol) -> Result<NamedKey<'a>, Stop>
     ensures reads { IfOk result (λ key. ClosedBy close (λ kind. IsKeyRest kind key (left cursor.old) (left cursor.new))) }
     ensures fewer { OnOk result (length (left cursor.new) < length (left cursor.old)) }
     ensures stops { IfErr result (λ stop. ClosedBy close (λ kind. Stops (key_rest kind) (left cursor.old) (left cursor.new) stop)) }
 {
     let collection = cursor.name()?;
-    let components = components(alloc, cursor)?;
+    let components = components(cursor)?;
     cursor.sign(close)?;
     Ok(NamedKey {
         collection,
@@ -57,19 +52,17 @@ fn key<'a>(alloc: Global, cursor: &mut Cursor<'_, 'a>, close: Symbol) -> Result<
 }
 
 /// An item, after its opening bracket.
-pub(crate) fn item<'a>(alloc: Global, cursor: &mut Cursor<'_, 'a>) -> Result<NamedKey<'a>, Stop>
+pub(crate) fn item<'a>(cursor: &mut Cursor<'a>) -> Result<NamedKey<'a>, Stop>
     ensures reads { IfOk result (λ key. IsKeyRest item_kind key (left cursor.old) (left cursor.new)) }
-    ensures fewer { OnOk result (length (left cursor.new) < length (left cursor.old)) }
     ensures stops { IfErr result (Stops (key_rest item_kind) (left cursor.old) (left cursor.new)) }
 {
-    key(alloc, cursor, Symbol::CloseBracket)
+    key(cursor, Symbol::CloseBracket)
 }
 
 /// A tag, after its opening bracket.
-pub(crate) fn tag<'a>(alloc: Global, cursor: &mut Cursor<'_, 'a>) -> Result<NamedKey<'a>, Stop>
+pub(crate) fn tag<'a>(cursor: &mut Cursor<'a>) -> Result<NamedKey<'a>, Stop>
     ensures reads { IfOk result (λ key. IsKeyRest tag_kind key (left cursor.old) (left cursor.new)) }
-    ensures fewer { OnOk result (length (left cursor.new) < length (left cursor.old)) }
     ensures stops { IfErr result (Stops (key_rest tag_kind) (left cursor.old) (left cursor.new)) }
 {
-    key(alloc, cursor, Symbol::Greater)
+    key(cursor, Symbol::Greater)
 }

@@ -1,5 +1,5 @@
 //! Lists of names.
-ghost use Rattle.std.specs.Prelude.{◌≡◌, ◌<◌, ◌≤◌, ◌∷◌, [], length, IfOk, IfErr, OnOk};
+ghost use Rattle.std.specs.Prelude.{◌∷◌, [], IfOk, IfErr};
 ghost use Rattle.syntax.specs.Expected.{component_name};
 ghost use Rattle.syntax.specs.Parsed.{left, Stops};
 ghost use Rattle.syntax.specs.ComponentNames.{AreNamed};
@@ -10,9 +10,8 @@ use crate::stop::Stop;
 use terms::MAX_COMPONENTS;
 
 /// How many components are named after the colon of a declaration.
-pub(crate) fn component_names(cursor: &mut Cursor<'_, '_>) -> Result<usize, Stop>
+pub(crate) fn component_names(cursor: &mut Cursor<'_>) -> Result<usize, Stop>
     ensures reads { IfOk result (λ count. AreNamed count (left cursor.old) (left cursor.new)) }
-    ensures fewer { OnOk result (length (left cursor.new) < length (left cursor.old)) }
     ensures stops { IfErr result (Stops (component_name 0 ∷ []) (left cursor.old) (left cursor.new)) }
 {
     let mut count = 0;

@@ -15,15 +15,15 @@ use crate::{Tree, TreeError, TreeFault};
 use std::alloc::Global;
 
 // The tree of all tokens that are left.
-fn whole_tree<'a>(alloc: Global, cursor: &mut Cursor<'_, 'a>) -> Result<Tree<'a>, Stop>
+fn whole_tree<'a>(cursor: &mut Cursor<'a>) -> Result<Tree<'a>, Stop>
     ensures reads { IfOk result (λ tree. IsGraphRead tree (left cursor.old)) }
     ensures stops { IfErr result (λ stop. Tells stop (left cursor.new) (run graph_expected (left cursor.old))) }
 {
     let Preamble {
         declarations,
         relations,
-    } = read_preamble(alloc, cursor)?;
-    let steps = steps(alloc, cursor)?;
+    } = read_preamble(cursor)?;
+    let steps = steps(cursor)?;
     if !cursor.is_at_end() {
         return Err(Stop::Syntax);
     }
@@ -35,7 +35,7 @@ fn whole_tree<'a>(alloc: Global, cursor: &mut Cursor<'_, 'a>) -> Result<Tree<'a>
 }
 
 // The fault of a text of `end` bytes, if the parser stops at this cursor with `stop`.
-fn fault_of(cursor: &Cursor<'_, '_>, stop: Stop, end: usize) -> TreeFault
+fn fault_of(cursor: &Cursor<'_>, stop: Stop, end: usize) -> TreeFault
     ensures { IsFaultOfStop stop end (left cursor.now) result }
 {
     match stop {
@@ -67,8 +67,8 @@ pub fn read_tree<'a>(alloc: Global, text: &'a str) -> Result<Tree<'a>, TreeFault
     ensures fault { IfErr result (λ fault. HasCause text.now fault) }
 {
     let tokens = tokens(alloc, text)?;
-    let mut cursor = Cursor::begin(&tokens);
-    match whole_tree(alloc, &mut cursor) {
+    let mut cursor = Cursor::begin(alloc, tokens);
+    match whole_tree(&mut cursor) {
         Ok(tree) => Ok(tree),
         Err(stop) => Err(fault_of(&cursor, stop, text.len())),
     }

@@ -3,11 +3,11 @@ ghost use Rattle.std.specs.Prelude.{◌<◌, ◌∷◌, List, length, IfOk, IfEr
 ghost use Rattle.syntax.specs.Grammar.{Position};
 ghost use Rattle.syntax.specs.Tree.{multiplication_operator, addition_operator, comparison_operator};
 ghost use Rattle.syntax.specs.Limits.{one_more, name_limits};
-ghost use Rattle.syntax.specs.Expected.{finished, opened, begun, negating, bracketing, passing, awaiting_product, awaiting_sum, awaiting_comparison};
-ghost use Rattle.syntax.specs.Parsed.{left};
-ghost use Rattle.syntax.specs.Whole.{OfWhole, IsWithinLimits, TellsLimit};
-ghost use Rattle.syntax.specs.Partial.{IsPartial, IsLevel, WhereFresh, EndsLevel, Becomes, EndsOperand, Awaits, ClosesBracket, EndsExpression, Fewer};
-ghost use Rattle.syntax.specs.Partial.{TakesOperand, StopsAtOperand, TakesJoint, StopsAtJoint, TellsBreak, TellsOpenBracket};
+ghost use Rattle.syntax.specs.Expected.{broken_off as breaking, opened, begun, negating, bracketing, passing, awaiting_product, awaiting_sum, awaiting_comparison};
+ghost use Rattle.syntax.specs.Parsed.{left, TellsMove};
+ghost use Rattle.syntax.specs.Whole.{EndsWithin, StopsAtEnd};
+ghost use Rattle.syntax.specs.Partial.{IsPartial, IsLevel, WhereFresh, EndsLevel, Becomes, EndsOperand, Awaits, ClosesBracket, Fewer};
+ghost use Rattle.syntax.specs.Partial.{TakesOperand, StopsAtOperand, TakesJoint};
 
 use crate::cursor::Cursor;
 use crate::joints::{Head, Joint};
@@ -68,8 +68,8 @@ pub(crate) enum After<'a> {
     AwaitsOperand,
     /// A bracket was closed, and this is the product so far.
     HasProduct(Operand<'a>),
-    /// The expression is whole.
-    Whole(Operand<'a>),
+    /// The next token is not taken: the expression ends with this product, or breaks off if a bracket is open.
+    Ends(Operand<'a>),
 }
 
 impl<'a> Level<'a> {
@@ -165,7 +165,7 @@ impl<'a> Partial<'a> {
 
     /// Why the parser stops if the expression breaks off: the first limit passed within it, or else the next token.
     pub(crate) fn broken_off(&self) -> Stop
-        ensures { TellsBreak self.now result }
+        ensures { TellsMove result (breaking self.now.passed) }
     {
         match self.passed {
             Some(place) => Stop::TooLarge(place),
@@ -174,44 +174,37 @@ impl<'a> Partial<'a> {
     }
 
     /// Takes the next token, of an operand. If the operand ends with it, returns the product so far.
-    pub(crate) fn begin(
-        &mut self,
-        alloc: Global,
-        cursor: &mut Cursor<'_, 'a>,
-    ) -> Result<Option<Operand<'a>>, Stop>
+    pub(crate) fn begin(&mut self, cursor: &mut Cursor<'a>) -> Result<Option<Operand<'a>>, Stop>
         ensures follows { IfOk result (TakesOperand self.old self.new (left cursor.old) (left cursor.new)) }
         ensures fewer { OnOk result (length (left cursor.new) < length (left cursor.old)) }
         ensures stops { IfErr result (StopsAtOperand self.old (left cursor.old) (left cursor.new)) }
     {
         let place = cursor.place();
-        match Head::of(cursor.front()) {
+        let node = match Head::of(cursor.front()) {
             Head::Minus => {
                 cursor.advance();
                 self.negate();
-                Ok(None)
+                return Ok(None);
             }
             Head::OpenBracket => {
                 cursor.advance();
                 self.open(place)?;
-                Ok(None)
+                return Ok(None);
             }
             Head::Number(value) => {
                 cursor.advance();
-                let node = Node::Number(value);
-                let tree = Tree { node };
-                let product = self.product(alloc, Operand::Kept { tree, depth: 1 })?;
-                Ok(Some(product))
+                Node::Number(value)
             }
             Head::Variable(text) => {
                 cursor.advance();
                 self.pass_name(text, place);
-                let node = Node::Variable(Name { text, place });
-                let tree = Tree { node };
-                let product = self.product(alloc, Operand::Kept { tree, depth: 1 })?;
-                Ok(Some(product))
+                Node::Variable(Name { text, place })
             }
-            Head::Other => Err(self.broken_off()),
-        }
+            Head::Other => return Err(self.broken_off()),
+        };
+        let tree = Tree { node };
+        let product = self.product(cursor.alloc, Operand::Kept { tree, depth: 1 })?;
+        Ok(Some(product))
     }
 
     // Notes a limit at `place` if this name of the expression is too long.
@@ -276,71 +269,58 @@ impl<'a> Partial<'a> {
         self.product(alloc, expression)
     }
 
-    /// Takes the next token, after an operand that ends `product`, unless the expression is whole there.
+    /// Takes the next token, after an operand that ends `product`, unless the expression ends or breaks off there.
     pub(crate) fn go_on(
         &mut self,
-        alloc: Global,
-        cursor: &mut Cursor<'_, 'a>,
+        cursor: &mut Cursor<'a>,
         product: Operand<'a>,
-    ) -> Result<After<'a>, Stop>
+    ) -> Result<After<'a>, AllocError>
         ensures goes_on { IfOk result (TakesJoint self.old product.entry self.new (left cursor.old) (left cursor.new)) }
         ensures fewer { IfOk result (λ after. Fewer after (length (left cursor.old)) (length (left cursor.new))) }
-        ensures stops { IfErr result (StopsAtJoint self.old (left cursor.old) (left cursor.new)) }
     {
         match Joint::of(cursor.front()) {
-            Joint::Product(operator) => {
-                cursor.advance();
-                self.await_product(product, operator);
-                Ok(After::AwaitsOperand)
-            }
-            Joint::Sum(operator) => {
-                cursor.advance();
-                self.await_sum(alloc, product, operator)?;
-                Ok(After::AwaitsOperand)
-            }
+            Joint::Product(operator) => self.await_product(product, operator),
+            Joint::Sum(operator) => self.await_sum(cursor.alloc, product, operator)?,
             Joint::Comparison(operator) => {
                 if !self.level.may_compare {
-                    return Ok(After::Whole(self.end(alloc, product)?));
+                    return Ok(After::Ends(product));
                 }
-                cursor.advance();
-                self.await_comparison(alloc, product, operator)?;
-                Ok(After::AwaitsOperand)
+                self.await_comparison(cursor.alloc, product, operator)?;
             }
             Joint::Closes => {
                 let Some(around) = self.outer.pop() else {
-                    return Ok(After::Whole(self.end(alloc, product)?));
+                    return Ok(After::Ends(product));
                 };
                 cursor.advance();
-                let product = self.close(alloc, product, around)?;
-                Ok(After::HasProduct(product))
+                let product = self.close(cursor.alloc, product, around)?;
+                return Ok(After::HasProduct(product));
             }
-            Joint::Ends => Ok(After::Whole(self.end(alloc, product)?)),
+            Joint::Ends => return Ok(After::Ends(product)),
         }
+        cursor.advance();
+        Ok(After::AwaitsOperand)
     }
 
-    // The whole expression, which ends with `product`, unless it breaks off within a bracket.
-    fn end(&mut self, alloc: Global, product: Operand<'a>) -> Result<Operand<'a>, Stop>
-        ensures whole { IfOk result (EndsExpression self.old product.entry self.new) }
-        ensures stops { IfErr result (TellsOpenBracket self.old) }
+    /// The tree of the expression that ends with `product`. Within the outer result, fails if a bracket is open, if the tree
+    /// is too deep, or if a limit was passed within the expression.
+    pub(crate) fn finish(
+        mut self,
+        alloc: Global,
+        product: Operand<'a>,
+    ) -> Result<Result<NamedExpression<'a>, Stop>, AllocError>
+        ensures within { IfOk result (λ found. IfOk found (EndsWithin self.entry product.entry)) }
+        ensures stops { IfOk result (λ found. IfErr found (StopsAtEnd self.entry product.entry)) }
     {
         if !self.outer.is_empty() {
-            return Err(self.broken_off());
+            return Ok(Err(self.broken_off()));
         }
         let expression = self.level.whole(alloc, product)?;
-        Ok(expression)
-    }
-
-    /// The tree of a whole expression, unless it is too deep or a limit is passed within it.
-    pub(crate) fn finish(&self, expression: Operand<'a>) -> Result<NamedExpression<'a>, Stop>
-        ensures within { IfOk result (λ tree. OfWhole self.now expression.entry (λ state expr. IsWithinLimits state expr tree)) }
-        ensures limits { IfErr result (λ stop. OfWhole self.now expression.entry (λ state expr. TellsLimit stop (finished state expr))) }
-    {
         let Some((tree, _)) = expression.kept() else {
-            return Err(Stop::TooLarge(self.first));
+            return Ok(Err(Stop::TooLarge(self.first)));
         };
         match self.passed {
-            Some(place) => Err(Stop::TooLarge(place)),
-            None => Ok(tree),
+            Some(place) => Ok(Err(Stop::TooLarge(place))),
+            None => Ok(Ok(tree)),
         }
     }
 }

@@ -1,5 +1,5 @@
 //! What comes before the steps of a text.
-ghost use Rattle.std.specs.Prelude.{◌≤◌, ◌∷◌, [], length, IfOk, IfErr, OnOk};
+ghost use Rattle.std.specs.Prelude.{◌∷◌, [], IfOk, IfErr};
 ghost use Rattle.syntax.specs.Expected.{declarations as some_declarations, steps};
 ghost use Rattle.syntax.specs.Parsed.{left, Stops};
 ghost use Rattle.syntax.specs.Declarations.{IsPreamble};
@@ -9,7 +9,6 @@ use crate::declarations::declarations;
 use crate::relations::next_relation;
 use crate::stop::Stop;
 use crate::{Declaration, Relation};
-use std::alloc::Global;
 
 /// Declarations, and the relations after them.
 #[derive(Drop)]
@@ -19,18 +18,14 @@ pub(crate) struct Preamble<'a> {
 }
 
 /// All declarations and relations from the beginning of a text.
-pub(crate) fn read_preamble<'a>(
-    alloc: Global,
-    cursor: &mut Cursor<'_, 'a>,
-) -> Result<Preamble<'a>, Stop>
+pub(crate) fn read_preamble<'a>(cursor: &mut Cursor<'a>) -> Result<Preamble<'a>, Stop>
     ensures reads { IfOk result (λ preamble. IsPreamble (steps 0 ∷ []) preamble (left cursor.old) (left cursor.new)) }
-    ensures fewer { OnOk result (length (left cursor.new) ≤ length (left cursor.old)) }
     ensures stops { IfErr result (Stops (some_declarations 0 0 ∷ []) (left cursor.old) (left cursor.new)) }
 {
     let Preamble {
         declarations,
         mut relations,
-    } = declarations(alloc, cursor)?;
+    } = declarations(cursor)?;
     loop {
         match next_relation(cursor)? {
             Some(relation) => {

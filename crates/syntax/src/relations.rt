@@ -1,5 +1,5 @@
 //! Relations between collections, steps and the environment.
-ghost use Rattle.std.specs.Prelude.{◌≡◌, ◌<◌, ◌∷◌, [], length, IfOk, IfErr, OnOk, IfSome};
+ghost use Rattle.std.specs.Prelude.{◌≡◌, ◌∷◌, [], IfOk, IfErr};
 ghost use Rattle.syntax.specs.Expected.{relations as some_relations};
 ghost use Rattle.syntax.specs.Limits.{name_limits};
 ghost use Rattle.syntax.specs.Parsed.{left, named_of, Stops};
@@ -19,10 +19,9 @@ pub(crate) enum Target<'a> {
 }
 
 // A name at the end of a relation, with its closing bracket and the semicolon.
-fn last_name<'a>(cursor: &mut Cursor<'_, 'a>, close: Symbol) -> Result<Name<'a>, Stop>
+fn last_name<'a>(cursor: &mut Cursor<'a>, close: Symbol) -> Result<Name<'a>, Stop>
     ensures reads { IfOk result (λ name. ReadsLastName close name (left cursor.old) (left cursor.new)) }
     ensures within { IfOk result (λ name. name_limits (named_of name) ≡ []) }
-    ensures fewer { OnOk result (length (left cursor.new) < length (left cursor.old)) }
     ensures stops { IfErr result (Stops (last_name_rest close) (left cursor.old) (left cursor.new)) }
 {
     let name = cursor.name()?;
@@ -32,10 +31,9 @@ fn last_name<'a>(cursor: &mut Cursor<'_, 'a>, close: Symbol) -> Result<Name<'a>,
 }
 
 // What is put, from the arrow on.
-fn arrow_target<'a>(cursor: &mut Cursor<'_, 'a>) -> Result<Target<'a>, Stop>
+fn arrow_target<'a>(cursor: &mut Cursor<'a>) -> Result<Target<'a>, Stop>
     ensures reads { IfOk result (λ target. ReadsTarget target (left cursor.old) (left cursor.new)) }
     ensures within { IfOk result (λ target. name_limits (named_of (target_name target)) ≡ []) }
-    ensures fewer { OnOk result (length (left cursor.new) < length (left cursor.old)) }
     ensures stops { IfErr result (Stops target_rest (left cursor.old) (left cursor.new)) }
 {
     cursor.sign(Symbol::Arrow)?;
@@ -56,12 +54,11 @@ fn arrow_target<'a>(cursor: &mut Cursor<'_, 'a>) -> Result<Target<'a>, Stop>
 
 /// A relation that begins with `item`, whose bracket is at `place`. The cursor is after the item.
 pub(crate) fn behind_item<'a>(
-    cursor: &mut Cursor<'_, 'a>,
+    cursor: &mut Cursor<'a>,
     place: usize,
     item: Name<'a>,
 ) -> Result<Relation<'a>, Stop>
     ensures reads { IfOk result (λ relation. ReadsBehindItem place (named_of item.entry) relation (left cursor.old) (left cursor.new)) }
-    ensures fewer { OnOk result (length (left cursor.new) < length (left cursor.old)) }
     ensures stops { IfErr result (Stops reader_rest (left cursor.old) (left cursor.new)) }
 {
     cursor.sign(Symbol::Arrow)?;
@@ -81,12 +78,8 @@ pub(crate) fn behind_item<'a>(
 }
 
 /// A prescription by `tag`. The cursor is after the tag.
-pub(crate) fn behind_tag<'a>(
-    cursor: &mut Cursor<'_, 'a>,
-    tag: Name<'a>,
-) -> Result<Relation<'a>, Stop>
+pub(crate) fn behind_tag<'a>(cursor: &mut Cursor<'a>, tag: Name<'a>) -> Result<Relation<'a>, Stop>
     ensures reads { IfOk result (λ relation. ReadsBehindTag (named_of tag.entry) relation (left cursor.old) (left cursor.new)) }
-    ensures fewer { OnOk result (length (left cursor.new) < length (left cursor.old)) }
     ensures stops { IfErr result (Stops prescribed_step (left cursor.old) (left cursor.new)) }
 {
     cursor.sign(Symbol::DoubleColon)?;
@@ -96,9 +89,8 @@ pub(crate) fn behind_tag<'a>(
 }
 
 // A relation that begins with an item, after the bracket at `place`.
-fn item_relation<'a>(cursor: &mut Cursor<'_, 'a>, place: usize) -> Result<Relation<'a>, Stop>
+fn item_relation<'a>(cursor: &mut Cursor<'a>, place: usize) -> Result<Relation<'a>, Stop>
     ensures reads { IfOk result (λ relation. ReadsItemRelation place relation (left cursor.old) (left cursor.new)) }
-    ensures fewer { OnOk result (length (left cursor.new) < length (left cursor.old)) }
     ensures stops { IfErr result (Stops item_relation_rest (left cursor.old) (left cursor.new)) }
 {
     let item = cursor.name()?;
@@ -107,9 +99,8 @@ fn item_relation<'a>(cursor: &mut Cursor<'_, 'a>, place: usize) -> Result<Relati
 }
 
 // A prescription, after its first bracket.
-fn tag_relation<'a>(cursor: &mut Cursor<'_, 'a>) -> Result<Relation<'a>, Stop>
+fn tag_relation<'a>(cursor: &mut Cursor<'a>) -> Result<Relation<'a>, Stop>
     ensures reads { IfOk result (λ relation. ReadsTagRelation relation (left cursor.old) (left cursor.new)) }
-    ensures fewer { OnOk result (length (left cursor.new) < length (left cursor.old)) }
     ensures stops { IfErr result (Stops tag_relation_rest (left cursor.old) (left cursor.new)) }
 {
     let tag = cursor.name()?;
@@ -118,9 +109,8 @@ fn tag_relation<'a>(cursor: &mut Cursor<'_, 'a>) -> Result<Relation<'a>, Stop>
 }
 
 // What a step puts, after the bracket at `place`.
-fn step_relation<'a>(cursor: &mut Cursor<'_, 'a>, place: usize) -> Result<Relation<'a>, Stop>
+fn step_relation<'a>(cursor: &mut Cursor<'a>, place: usize) -> Result<Relation<'a>, Stop>
     ensures reads { IfOk result (λ relation. ReadsStepRelation place relation (left cursor.old) (left cursor.new)) }
-    ensures fewer { OnOk result (length (left cursor.new) < length (left cursor.old)) }
     ensures stops { IfErr result (Stops step_relation_rest (left cursor.old) (left cursor.new)) }
 {
     let step = cursor.name()?;
@@ -132,9 +122,8 @@ fn step_relation<'a>(cursor: &mut Cursor<'_, 'a>, place: usize) -> Result<Relati
 }
 
 // What the environment puts, after the word at `place`.
-fn environment_relation<'a>(cursor: &mut Cursor<'_, 'a>, place: usize) -> Result<Relation<'a>, Stop>
+fn environment_relation<'a>(cursor: &mut Cursor<'a>, place: usize) -> Result<Relation<'a>, Stop>
     ensures reads { IfOk result (λ relation. ReadsEnvironmentRelation place relation (left cursor.old) (left cursor.new)) }
-    ensures fewer { OnOk result (length (left cursor.new) < length (left cursor.old)) }
     ensures stops { IfErr result (Stops target_rest (left cursor.old) (left cursor.new)) }
 {
     match arrow_target(cursor)? {
@@ -144,33 +133,29 @@ fn environment_relation<'a>(cursor: &mut Cursor<'_, 'a>, place: usize) -> Result
 }
 
 /// A relation, if one begins with the next token.
-pub(crate) fn next_relation<'a>(cursor: &mut Cursor<'_, 'a>) -> Result<Option<Relation<'a>>, Stop>
+pub(crate) fn next_relation<'a>(cursor: &mut Cursor<'a>) -> Result<Option<Relation<'a>>, Stop>
     ensures reads { IfOk result (λ relation. IsRelationOrNone relation (left cursor.old) (left cursor.new)) }
-    ensures fewer { IfOk result (λ relation. IfSome relation (λ _. length (left cursor.new) < length (left cursor.old))) }
     ensures stops { IfErr result (Stops (some_relations ∷ []) (left cursor.old) (left cursor.new)) }
 {
     let place = cursor.place();
-    match cursor.front() {
+    let relation = match cursor.front() {
         Token::Symbol(Symbol::OpenBracket) => {
             cursor.advance();
-            let relation = item_relation(cursor, place)?;
-            Ok(Some(relation))
+            item_relation(cursor, place)
         }
         Token::Symbol(Symbol::Less) => {
             cursor.advance();
-            let relation = tag_relation(cursor)?;
-            Ok(Some(relation))
+            tag_relation(cursor)
         }
         Token::Symbol(Symbol::OpenRound) => {
             cursor.advance();
-            let relation = step_relation(cursor, place)?;
-            Ok(Some(relation))
+            step_relation(cursor, place)
         }
         Token::Word(Word::Env) => {
             cursor.advance();
-            let relation = environment_relation(cursor, place)?;
-            Ok(Some(relation))
+            environment_relation(cursor, place)
         }
-        _ => Ok(None),
-    }
+        _ => return Ok(None),
+    }?;
+    Ok(Some(relation))
 }

@@ -9,12 +9,11 @@ ghost use Rattle.syntax.specs.StepNames.{TakesOn, StopsOn, AreListed, StopsInLis
 use crate::cursor::Cursor;
 use crate::stop::Stop;
 use crate::{Symbol, Token, Word};
-use std::alloc::Global;
 use steptree::{MOST_NAMES, Name};
 use terms::MAX_COMPONENTS;
 
 // Takes the token after a name: true for a comma, before one more name; false for `close`, which ends the list.
-fn goes_on(cursor: &mut Cursor<'_, '_>, close: Symbol) -> Result<bool, Stop>
+fn goes_on(cursor: &mut Cursor<'_>, close: Symbol) -> Result<bool, Stop>
     ensures reads { IfOk result (λ more. TakesOn close more (left cursor.old) (left cursor.new)) }
     ensures fewer { OnOk result (length (left cursor.new) < length (left cursor.old)) }
     ensures stops { IfErr result (StopsOn close (left cursor.old) (left cursor.new)) }
@@ -34,18 +33,13 @@ fn goes_on(cursor: &mut Cursor<'_, '_>, close: Symbol) -> Result<bool, Stop>
 }
 
 // At least one name and at most `most` names, up to the sign `close`.
-fn listed<'a>(
-    alloc: Global,
-    cursor: &mut Cursor<'_, 'a>,
-    most: usize,
-    close: Symbol,
-) -> Result<Vec<Name<'a>>, Stop>
+fn listed<'a>(cursor: &mut Cursor<'a>, most: usize, close: Symbol) -> Result<Vec<Name<'a>>, Stop>
     ensures reads { IfOk result (λ names. AreListed most close names.items (left cursor.old) (left cursor.new)) }
     ensures few { IfOk result (λ names. length names.items ≤ most) }
     ensures fewer { OnOk result (length (left cursor.new) < length (left cursor.old)) }
     ensures stops { IfErr result (StopsInList most close (left cursor.old) (left cursor.new)) }
 {
-    let mut names = Vec::new(alloc);
+    let mut names = Vec::new(cursor.alloc);
     loop {
         let name = cursor.counted_name(names.len() >= most)?;
         names.reserve(1)?;
@@ -57,9 +51,8 @@ fn listed<'a>(
 }
 
 // Takes the closing bracket if there are no parameters, and returns whether there are none.
-fn no_parameters(cursor: &mut Cursor<'_, '_>) -> bool
+fn no_parameters(cursor: &mut Cursor<'_>) -> bool
     ensures taken { NoParameters result (left cursor.old) (left cursor.new) }
-    ensures fewer { length (left cursor.new) ≤ length (left cursor.old) }
 {
     match cursor.front() {
         Token::Symbol(sign) if sign == Symbol::CloseRound => {
@@ -71,35 +64,26 @@ fn no_parameters(cursor: &mut Cursor<'_, '_>) -> bool
 }
 
 /// The parameters of a step after their opening bracket, with the closing one.
-pub(crate) fn parameters<'a>(
-    alloc: Global,
-    cursor: &mut Cursor<'_, 'a>,
-) -> Result<Vec<Name<'a>>, Stop>
+pub(crate) fn parameters<'a>(cursor: &mut Cursor<'a>) -> Result<Vec<Name<'a>>, Stop>
     ensures reads { IfOk result (λ names. AreParameters names.items (left cursor.old) (left cursor.new)) }
     ensures few { IfOk result (λ names. length names.items ≤ MAX_COMPONENTS) }
-    ensures fewer { OnOk result (length (left cursor.new) ≤ length (left cursor.old)) }
     ensures stops { IfErr result (Stops (some_parameters ∷ []) (left cursor.old) (left cursor.new)) }
 {
     if no_parameters(cursor) {
-        return Ok(Vec::new(alloc));
+        return Ok(Vec::new(cursor.alloc));
     }
-    listed(alloc, cursor, MAX_COMPONENTS, Symbol::CloseRound)
+    listed(cursor, MAX_COMPONENTS, Symbol::CloseRound)
 }
 
 /// The variables of a step that has `before` names before them.
-pub(crate) fn variables<'a>(
-    alloc: Global,
-    cursor: &mut Cursor<'_, 'a>,
-    before: usize,
-) -> Result<Vec<Name<'a>>, Stop>
+pub(crate) fn variables<'a>(cursor: &mut Cursor<'a>, before: usize) -> Result<Vec<Name<'a>>, Stop>
     ensures reads { IfOk result (λ names. AreVariables before names.items (left cursor.old) (left cursor.new)) }
     ensures few { IfOk result (λ names. length names.items ≤ MOST_NAMES - before) }
-    ensures fewer { OnOk result (length (left cursor.new) ≤ length (left cursor.old)) }
     ensures stops { IfErr result (Stops (some_variables before ∷ []) (left cursor.old) (left cursor.new)) }
 {
     if !cursor.takes_word(Word::Var) {
-        return Ok(Vec::new(alloc));
+        return Ok(Vec::new(cursor.alloc));
     }
     let most = MOST_NAMES.saturating_sub(before);
-    listed(alloc, cursor, most, Symbol::Semicolon)
+    listed(cursor, most, Symbol::Semicolon)
 }

@@ -1,5 +1,5 @@
 //! The signs, of two characters and of one.
-ghost use Rattle.std.specs.Prelude.{◌≡◌, ◌≢◌, [], ◌∷◌, length, MatchOption};
+ghost use Rattle.std.specs.Prelude.{◌≡◌, ◌≢◌, [], ◌∷◌, MatchOption};
 ghost use Rattle.syntax.specs.Tokens.{symbol_text};
 ghost use Rattle.syntax.specs.declared.token.Symbol.{Symbol};
 

@@ -1,13 +1,16 @@
-use Rattle.std.proofs.Common.{◌≡◌, [], ◌∷◌, ◌++◌, add-one, refl, sym, subst, ◌∙◌, arith, rules, Some, None}
+use Rattle.std.proofs.Common.{◌≡◌, [], ◌∷◌, ◌++◌, add-one, refl, sym, subst, ◌∙◌, rules, Some, None, Ok, Err}
 use Rattle.syntax.specs.declared.part.Beginning.TheVariants as beginning
 use Rattle.syntax.specs.declared.token.Symbol.TheVariants as sign
 use Rattle.syntax.specs.Grammar.{for}
 use Rattle.syntax.specs.Expected.{exactly, nested, or_else, statements}
 use Rattle.syntax.specs.Parsed.{left, named_of}
-use Rattle.syntax.specs.Statements.{part_of, StatementsSoFar}
+use Rattle.syntax.specs.Statements.{part_of, Begins, StatementsSoFar}
+use Rattle.syntax.proofs.Fewer.{statement_fewer}
+use Rattle.syntax.proofs.Returned.{as_ok, as_err}
 use Rattle.syntax.proofs.Stopping.{passed_on}
 use Rattle.syntax.proofs.Moves.{◌⨟◌, reads_on, stops_behind}
 use Rattle.syntax.proofs.StatementSteps.{choice_read, one_statement, statement_stops, next_statement, all_statements}
+use Rattle.syntax.proofs.blocks.+blocks.Goals.{statements-in-Assignment, statements-in-Choice, statements-in-Repetition, statements-in-Own}
 use Rattle.syntax.proofs.blocks.+blocks.Goals as goal
 
 -- ---- a block in braces
@@ -32,18 +35,16 @@ second-returns-then-not-takes_word-clause-reads t c =
     let none = c.if-not-takes_word.ensures.taken in
     rw c.end.ensures (record { second = None; reads = record { spells = sym none.0; goes = none.1 (or_else part c.args.around) (nested part c.args.around) (λ lexeme place. refl) }; is = refl; within = refl })
 
-pub second-returns-in_err-block-clause-stops : goal.second-returns-in_err-block-clause-stops
-second-returns-in_err-block-clause-stops t c =
-    let part = part_of c.args.part in
-    passed_on c.from_residual.result c.in_err-block.field-0.0 _ c.from_residual.ensures.1
-    (stops_behind [] (left c.nested.new.cursor) c.in_err-block.field-0.0 (c.if-not-takes_word.ensures.taken (or_else part c.args.around) (nested part c.args.around) (λ lexeme place. refl)) c.in_err-block.ensures.stops)
-
 pub second-returns-clause-reads : goal.second-returns-clause-reads
-second-returns-clause-reads t c =
+second-returns-clause-reads t c = as_ok c.nested.result _ _ c.nested.ensures.reads (λ tree block.
     let part = part_of c.args.part in
-    let block = c.in_ok-block.ensures.reads in
     let word = c.if-not-takes_word.ensures.taken (or_else part c.args.around) (nested part c.args.around) (λ lexeme place. refl) in
-    record { second = Some (block.position, block.block); reads = reads_on [] word block.reads; is = block.are; within = block.within }
+    record { second = Some (block.position, block.block); reads = reads_on [] word block.reads; is = block.are; within = block.within })
+
+pub second-returns-clause-stops : goal.second-returns-clause-stops
+second-returns-clause-stops t c = as_err c.nested.result _ _ c.nested.ensures.stops (λ cause stops.
+    let part = part_of c.args.part in
+    stops_behind [] (left c.nested.new.cursor) cause (c.if-not-takes_word.ensures.taken (or_else part c.args.around) (nested part c.args.around) (λ lexeme place. refl)) stops)
 
 -- ---- a choice and a repetition
 
@@ -63,55 +64,58 @@ repetition-returns-clause-reads t c =
       within = rw (c.in_ok-variable.ensures.within, from.within, to.within) block.within;
     }
 
--- ---- a statement
-
-pub statement-returns-in_err-statement-in-Assignment-clause-stops : goal.statement-returns-in_err-statement-in-Assignment-clause-stops
-statement-returns-in_err-statement-in-Assignment-clause-stops t c =
-    passed_on c.from_residual.result c.in_err-statement-in-Assignment.field-0.0 _ c.from_residual.ensures.1
-    (statement_stops _ _ beginning.Assignment (left c.args.cursor.now) _ _ (c.in-Assignment.ensures.0, sym c.front.ensures ∙ c.in-Assignment.ensures.1) c.in_err-statement-in-Assignment.ensures.stops)
-
-pub statement-returns-in_err-statement-in-Choice-clause-stops : goal.statement-returns-in_err-statement-in-Choice-clause-stops
-statement-returns-in_err-statement-in-Choice-clause-stops t c =
-    passed_on c.from_residual-in_err-statement-in-Choice.result c.in_err-statement-in-Choice.field-0.0 _ c.from_residual-in_err-statement-in-Choice.ensures.1
-    (statement_stops _ _ beginning.Choice (left c.args.cursor.now) _ _ (sym c.front.ensures ∙ c.in-Choice.ensures) c.in_err-statement-in-Choice.ensures.stops)
-
-pub statement-returns-in_err-statement-in-Repetition-clause-stops : goal.statement-returns-in_err-statement-in-Repetition-clause-stops
-statement-returns-in_err-statement-in-Repetition-clause-stops t c =
-    passed_on c.from_residual-in_err-statement-in-Repetition.result c.in_err-statement-in-Repetition.field-0.0 _ c.from_residual-in_err-statement-in-Repetition.ensures.1
-    (statement_stops _ _ beginning.Repetition (left c.args.cursor.now) _ _ (sym c.front.ensures ∙ c.in-Repetition.ensures) c.in_err-statement-in-Repetition.ensures.stops)
-
-pub statement-returns-in_err-statement-in-Own-clause-stops : goal.statement-returns-in_err-statement-in-Own-clause-stops
-statement-returns-in_err-statement-in-Own-clause-stops t c =
-    passed_on c.from_residual-in_err-statement-in-Own.result c.in_err-statement-in-Own.field-0.0 _ c.from_residual-in_err-statement-in-Own.ensures.1
-    (statement_stops _ _ beginning.Own (left c.args.cursor.now) _ _ (sym c.front.ensures ∙ c.in-Own.ensures) c.in_err-statement-in-Own.ensures.stops)
-
-pub statement-returns-in_ok-statement-in-Assignment-clause-reads : goal.statement-returns-in_ok-statement-in-Assignment-clause-reads
-statement-returns-in_ok-statement-in-Assignment-clause-reads t c = one_statement beginning.Assignment (c.in-Assignment.ensures.0, sym c.front.ensures ∙ c.in-Assignment.ensures.1) (c.in_ok-statement-in-Assignment.ensures.reads (part_of c.args.part) c.args.around)
-
-pub statement-returns-in_ok-statement-in-Choice-clause-reads : goal.statement-returns-in_ok-statement-in-Choice-clause-reads
-statement-returns-in_ok-statement-in-Choice-clause-reads t c = one_statement beginning.Choice (sym c.front.ensures ∙ c.in-Choice.ensures) c.in_ok-statement-in-Choice.ensures.reads
-
-pub statement-returns-in_ok-statement-in-Repetition-clause-reads : goal.statement-returns-in_ok-statement-in-Repetition-clause-reads
-statement-returns-in_ok-statement-in-Repetition-clause-reads t c = one_statement beginning.Repetition (sym c.front.ensures ∙ c.in-Repetition.ensures) c.in_ok-statement-in-Repetition.ensures.reads
-
-pub statement-returns-in_ok-statement-in-Own-clause-reads : goal.statement-returns-in_ok-statement-in-Own-clause-reads
-statement-returns-in_ok-statement-in-Own-clause-reads t c = one_statement beginning.Own (sym c.front.ensures ∙ c.in-Own.ensures) (c.in_ok-statement-in-Own.ensures.reads c.args.around)
-
 -- ---- statements
 
-pub statements-loop-statements-preserved : goal.statements-loop-statements-preserved
-statements-loop-statements-preserved t c =
-    let so_far = c.loop-statements in
-    let one = rw c.in-Some.is at c.in_ok-statement.ensures.reads in
-    let fewer = rw c.in-Some.is at c.in_ok-statement.ensures.fewer in
-    let pushed : c.push_reserved.new.self.items ≡ so_far.statements.items ++ c.in-Some.statement ∷ [] = search rules in (
-      subst (StatementsSoFar (part_of c.args.part) c.args.around (left c.args.cursor.now) (left c.statement.new.cursor)) (sym pushed)
-          (next_statement (part_of c.args.part) c.args.around (left c.args.cursor.now) (left so_far.cursor) (left c.statement.new.cursor) so_far.statements.items c.in-Some.statement so_far.invariant.0 one),
-      omega (arith, fewer, so_far.invariant.1),
-    )
+pub statements-returns-in-Other-clause-reads : goal.statements-returns-in-Other-clause-reads
+statements-returns-in-Other-clause-reads t c =
+    let so_far = c.loop-cursor in
+    let none = subst (λ lexeme. Begins (part_of c.args.part) lexeme beginning.Other) c.front.ensures (subst (Begins (part_of c.args.part) _) c.in-Other.is c.beginning.ensures) in
+    all_statements (part_of c.args.part) c.args.around (left c.args.cursor.now) (left so_far.cursor) so_far.statements.items so_far.invariant none
 
-pub statements-returns-in-None-clause-reads : goal.statements-returns-in-None-clause-reads
-statements-returns-in-None-clause-reads t c =
-    let so_far = c.loop-statements in
-    let none = rw c.in-None.is at c.in_ok-statement.ensures.reads in
-    (all_statements (part_of c.args.part) c.args.around (left c.args.cursor.now) (left so_far.cursor) (left c.statement.new.cursor) so_far.statements.items so_far.invariant.0 none)
+pub statements-returns-in_err-statement-clause-stops : goal.statements-returns-in_err-statement-clause-stops
+statements-returns-in_err-statement-clause-stops t c =
+    let part = part_of c.args.part in
+    let now = left c.loop-cursor.cursor in
+    passed_on c.from_residual.result c.in_err-statement.field-0.0 _ c.from_residual.ensures.1 (stops_behind [] _ _ c.loop-cursor.invariant.reads (elim c.match-beginning.branch [
+      | statements-in-Assignment w ↦ let err : w.assigned.result ≡ Err c.in_err-statement.field-0.0 = sym w.branch'-is ∙ c.in_err-statement.was in
+          rw w.cursor-is (statement_stops part _ beginning.Assignment now _ _ (w.in-Assignment.ensures.0, sym c.front.ensures ∙ w.in-Assignment.ensures.1) (rw err at w.assigned.ensures.stops))
+      | statements-in-Choice w ↦ let err : w.choice.result ≡ Err c.in_err-statement.field-0.0 = sym w.branch'-is ∙ c.in_err-statement.was in
+          rw w.cursor-is (statement_stops part _ beginning.Choice now _ _ (sym c.front.ensures ∙ w.in-Choice.ensures) (rw err at w.choice.ensures.stops))
+      | statements-in-Repetition w ↦ let err : w.repetition.result ≡ Err c.in_err-statement.field-0.0 = sym w.branch'-is ∙ c.in_err-statement.was in
+          rw w.cursor-is (statement_stops part _ beginning.Repetition now _ _ (sym c.front.ensures ∙ w.in-Repetition.ensures) (rw err at w.repetition.ensures.stops))
+      | statements-in-Own w ↦ let err : w.own.result ≡ Err c.in_err-statement.field-0.0 = sym w.branch'-is ∙ c.in_err-statement.was in
+          rw w.cursor-is (statement_stops part _ beginning.Own now _ _ (sym c.front.ensures ∙ w.in-Own.ensures) (rw err at w.own.ensures.stops))
+    ]))
+
+pub statements-loop-cursor-preserved : goal.statements-loop-cursor-preserved
+statements-loop-cursor-preserved t c =
+    let so_far = c.loop-cursor in
+    let part = part_of c.args.part in
+    let around = c.args.around in
+    let start = left c.args.cursor.now in
+    let now = left so_far.cursor in
+    let trees = so_far.statements.items in
+    let tree = c.in_ok-statement.statement in
+    let pushed : c.push_reserved.new.self.items ≡ trees ++ tree ∷ [] = search rules in
+    subst (StatementsSoFar part around start (left c.match-beginning.cursor)) (sym pushed) (elim c.match-beginning.branch [
+      | statements-in-Assignment w ↦ let ok : w.assigned.result ≡ Ok tree = sym w.branch'-is ∙ c.in_ok-statement.was in
+          rw w.cursor-is (next_statement part around start now _ trees tree so_far.invariant (one_statement beginning.Assignment (w.in-Assignment.ensures.0, sym c.front.ensures ∙ w.in-Assignment.ensures.1) ((rw ok at w.assigned.ensures.reads) part c.args.around)))
+      | statements-in-Choice w ↦ let ok : w.choice.result ≡ Ok tree = sym w.branch'-is ∙ c.in_ok-statement.was in
+          rw w.cursor-is (next_statement part around start now _ trees tree so_far.invariant (one_statement beginning.Choice (sym c.front.ensures ∙ w.in-Choice.ensures) (rw ok at w.choice.ensures.reads)))
+      | statements-in-Repetition w ↦ let ok : w.repetition.result ≡ Ok tree = sym w.branch'-is ∙ c.in_ok-statement.was in
+          rw w.cursor-is (next_statement part around start now _ trees tree so_far.invariant (one_statement beginning.Repetition (sym c.front.ensures ∙ w.in-Repetition.ensures) (rw ok at w.repetition.ensures.reads)))
+      | statements-in-Own w ↦ let ok : w.own.result ≡ Ok tree = sym w.branch'-is ∙ c.in_ok-statement.was in
+          rw w.cursor-is (next_statement part around start now _ trees tree so_far.invariant (one_statement beginning.Own (sym c.front.ensures ∙ w.in-Own.ensures) ((rw ok at w.own.ensures.reads) c.args.around)))
+    ])
+
+pub statements-loop-cursor-smaller : goal.statements-loop-cursor-smaller
+statements-loop-cursor-smaller t c = let part = part_of c.args.part in elim c.match-beginning.branch [
+  | statements-in-Assignment w ↦ let ok : w.assigned.result ≡ Ok c.in_ok-statement.statement = sym w.branch'-is ∙ c.in_ok-statement.was in
+      rw w.cursor-is (statement_fewer ((rw ok at w.assigned.ensures.reads) part c.args.around))
+  | statements-in-Choice w ↦ let ok : w.choice.result ≡ Ok c.in_ok-statement.statement = sym w.branch'-is ∙ c.in_ok-statement.was in
+      rw w.cursor-is (statement_fewer (rw ok at w.choice.ensures.reads))
+  | statements-in-Repetition w ↦ let ok : w.repetition.result ≡ Ok c.in_ok-statement.statement = sym w.branch'-is ∙ c.in_ok-statement.was in
+      rw w.cursor-is (statement_fewer (rw ok at w.repetition.ensures.reads))
+  | statements-in-Own w ↦ let ok : w.own.result ≡ Ok c.in_ok-statement.statement = sym w.branch'-is ∙ c.in_ok-statement.was in
+      rw w.cursor-is (statement_fewer ((rw ok at w.own.ensures.reads) c.args.around))
+]

@@ -1,23 +1,12 @@
-use Rattle.std.proofs.Common.{[], ◌++◌, refl, sym, subst}
-use Rattle.steptree.specs.declared.block.Statement.TheVariants as statement
-use Rattle.syntax.specs.declared.token.Word.TheVariants as kept
-use Rattle.syntax.specs.Grammar.{own}
-use Rattle.syntax.specs.Spelled.{a_word}
-use Rattle.syntax.specs.Expected.{writing}
-use Rattle.syntax.specs.Parsed.{left, Reads}
-use Rattle.syntax.specs.Statements.{part_of, own_expected, IsStatementRead}
-use Rattle.syntax.proofs.Moves.{◌⨟◌}
+use Rattle.std.proofs.Common.{◌≡◌, Ok, sym, ◌∙◌}
+use Rattle.syntax.proofs.StatementSteps.{get_read, put_read}
+use Rattle.syntax.proofs.blocks.own.Goals.{in-Reading+in_ok-keyword-in-Reading, in-Writing+in_ok-keyword-in-Writing}
 use Rattle.syntax.proofs.blocks.own.Goals as goal
 
-pub returns-in_ok-statement-in-Reading-clause-reads : goal.returns-in_ok-statement-in-Reading-clause-reads
-returns-in_ok-statement-in-Reading-clause-reads c = λ around.
-    let read = c.in_ok-statement-in-Reading.ensures.reads in
-    subst (λ part. IsStatementRead (part_of part) around (own_expected (part_of part)) [] (statement.Simple c.in_ok-statement-in-Reading.statement) (left c.args.cursor.now) (left c.get.new.cursor)) (sym c.in-Reading.is)
-    (record { statement = own read.get; reads = c.in_ok-keyword-in-Reading.ensures.reads ⨟ read.reads; is = λ rest. (read.is, refl); within = read.within })
-
-pub returns-in_ok-statement-in-Writing-clause-reads : goal.returns-in_ok-statement-in-Writing-clause-reads
-returns-in_ok-statement-in-Writing-clause-reads c = λ around.
-    let read = c.in_ok-statement-in-Writing.ensures.reads in
-    let reads = subst (λ pieces. Reads (own_expected writing) [] (a_word kept.Put ++ pieces) (left c.args.cursor.now) (left c.put.new.cursor)) (sym read.spelled) (c.in_ok-keyword-in-Writing.ensures.reads ⨟ read.reads) in
-    subst (λ part. IsStatementRead (part_of part) around (own_expected (part_of part)) [] (statement.Simple c.in_ok-statement-in-Writing.statement) (left c.args.cursor.now) (left c.put.new.cursor)) (sym c.in-Writing.is)
-    (record { statement = own read.put; reads = reads; is = λ rest. (read.is, refl); within = read.within })
+pub returns-clause-reads : goal.returns-clause-reads
+returns-clause-reads c = elim c.match-part.branch [
+  | in-Reading+in_ok-keyword-in-Reading w ↦ let ok : w.get.result ≡ Ok c.in_ok-statement.statement = sym w.branch'-is ∙ c.in_ok-statement.was in
+      rw (w.cursor-is, w.in-Reading.is) (get_read w.in_ok-keyword-in-Reading.ensures.reads (rw ok at w.get.ensures.reads))
+  | in-Writing+in_ok-keyword-in-Writing w ↦ let ok : w.put.result ≡ Ok c.in_ok-statement.statement = sym w.branch'-is ∙ c.in_ok-statement.was in
+      rw (w.cursor-is, w.in-Writing.is) (put_read w.in_ok-keyword-in-Writing.ensures.reads (rw ok at w.put.ensures.reads))
+]

@@ -11,20 +11,18 @@ returns-then-not-takes-clause-reads c =
 
 pub loop-components-init : goal.loop-components-init
 loop-components-init c =
-    (subst (ComponentsSoFar (left c.args.cursor.now) (left c.takes.new.self)) (sym c.new-components.ensures.items) (first_component _ _ c.if-not-takes.ensures.taken), search rules)
+    subst (ComponentsSoFar (left c.args.cursor.now) (left c.takes.new.self)) (sym c.new-components.ensures.items) (first_component _ _ c.if-not-takes.ensures.taken)
 
 pub returns-then-not-takes-2-clause-reads : goal.returns-then-not-takes-2-clause-reads
 returns-then-not-takes-2-clause-reads c =
     let pushed : c.push_reserved.new.self.items ≡ c.loop-components.components.items ++ c.in_ok-component.component ∷ [] = search rules in
     subst (λ items. AreComponents items (left c.args.cursor.now) (left c.takes-in-loop-components.new.self)) (sym pushed)
     (last_component (c.loop-components.components.items ++ c.in_ok-component.component ∷ [])
-    (one_component c.loop-components.components.items c.in_ok-component.component c.loop-components.invariant.0 (c.in_ok-component.ensures.reads never refl tt)) c.if-not-takes-2.ensures.taken)
+    (one_component c.loop-components.components.items c.in_ok-component.component c.loop-components.invariant (c.in_ok-component.ensures.reads never refl tt)) c.if-not-takes-2.ensures.taken)
 
 pub loop-components-preserved : goal.loop-components-preserved
 loop-components-preserved c =
-    let pushed : c.push_reserved.new.self.items ≡ c.loop-components.components.items ++ c.in_ok-component.component ∷ [] = search rules in (
-      subst (ComponentsSoFar (left c.args.cursor.now) (left c.takes-in-loop-components.new.self)) (sym pushed)
-          (next_component (c.loop-components.components.items ++ c.in_ok-component.component ∷ [])
-          (one_component c.loop-components.components.items c.in_ok-component.component c.loop-components.invariant.0 (c.in_ok-component.ensures.reads never refl tt)) c.if-not-takes-2.ensures.taken),
-      search rules,
-    )
+    let pushed : c.push_reserved.new.self.items ≡ c.loop-components.components.items ++ c.in_ok-component.component ∷ [] = search rules in
+    subst (ComponentsSoFar (left c.args.cursor.now) (left c.takes-in-loop-components.new.self)) (sym pushed)
+    (next_component (c.loop-components.components.items ++ c.in_ok-component.component ∷ [])
+    (one_component c.loop-components.components.items c.in_ok-component.component c.loop-components.invariant (c.in_ok-component.ensures.reads never refl tt)) c.if-not-takes-2.ensures.taken)

@@ -22,4 +22,4 @@ loop-count-preserved c =
     let room : c.loop-count.count < MAX_COMPONENTS = search rules in
     let name = c.in_ok-counted_name in
     let it = component_read c.loop-count.count name.field-0 c.loop-count.invariant.0 room (rw name.ensures.room at name.ensures.reads) name.ensures.within in
-    (rw add-one (next_name c.loop-count.count it c.if-not-takes.ensures.taken), omega (arith, room), search rules)
+    (rw add-one (next_name c.loop-count.count it c.if-not-takes.ensures.taken), omega (arith, room))

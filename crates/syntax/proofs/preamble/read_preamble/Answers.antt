@@ -11,8 +11,6 @@ loop-relations-preserved c =
     let now = c.loop-relations in
     let after = left c.next_relation.new.cursor in
     let read = subst (λ it. IsRelationOrNone it (left now.cursor) after) c.in-Some.is c.in_ok-relation.ensures.reads in
-    let pushed : c.push_reserved.new.self.items ≡ now.relations.items ++ c.in-Some.relation ∷ [] = search rules in (
-      subst (λ them. ArePreamble (relations ∷ []) c.in_ok-declarations.field-0.declarations.items them (left c.args.cursor.now) after) (sym pushed)
-          (one_related c.in-Some.relation after now.invariant.0 read),
-      search rules,
-    )
+    let pushed : c.push_reserved.new.self.items ≡ now.relations.items ++ c.in-Some.relation ∷ [] = search rules in
+    subst (λ them. ArePreamble (relations ∷ []) c.in_ok-declarations.field-0.declarations.items them (left c.args.cursor.now) after) (sym pushed)
+    (one_related c.in-Some.relation after now.invariant read)
