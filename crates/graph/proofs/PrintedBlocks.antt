@@ -1,5 +1,5 @@
 -- The read block and the write block of a step, as they are printed.
-use Rattle.std.proofs.Common.{◌≡◌, ℕ, ◌<◌, ◌≤◌, Bool, List, [], length, get_or, Some, ap, arith, suc, ◌+◌, ◌++◌, codes, refl, append_assoc, map, ◌∷◌}
+use Rattle.std.proofs.Common.{◌≡◌, ℕ, ◌<◌, ◌≤◌, Bool, List, [], length, get_or, Some, ap, arith, suc, ◌+◌, ◌++◌, codes, refl, append_assoc, ◌∷◌}
 use Rattle.std.proofs.lemmas.List.{length-map}
 use Rattle.std.proofs.lemmas.Option.{slice_get_within, get_or_from_slice_get}
 use Rattle.terms.specs.declared.key.TheConstants.{MAX_COMPONENTS}

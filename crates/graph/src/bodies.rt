@@ -61,19 +61,22 @@ fn check_step(
     ensures { ChecksStep tree.now number result }
 {
     let relations = &resolved.relations;
+    let reads = &relations.reads[number];
+    let item_puts = &relations.item_puts[number];
+    let tag_puts = &relations.tag_puts[number];
     let sheet = Sheet {
         items: &resolved.items.declared,
         tags: &resolved.tags.declared,
-        reads: &relations.reads[number],
-        item_puts: &relations.item_puts[number],
-        tag_puts: &relations.tag_puts[number],
+        reads,
+        item_puts,
+        tag_puts,
     };
     let checked = check_body(alloc, &tree.steps[number], &sheet)?;
     Ok(Prescribed {
         prescriber: relations.prescribers[number].unwrap(),
-        reads: copied(&relations.reads[number])?,
-        item_puts: copied(&relations.item_puts[number])?,
-        tag_puts: copied(&relations.tag_puts[number])?,
+        reads: copied(reads)?,
+        item_puts: copied(item_puts)?,
+        tag_puts: copied(tag_puts)?,
         checked,
     })
 }

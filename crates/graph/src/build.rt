@@ -49,14 +49,16 @@ pub(crate) fn graph_of(alloc: Global, tree: &Tree<'_>) -> Result<(Graph, Vec<u8>
         tags,
         relations,
     } = resolved;
+    let (environment_item_puts, environment_tag_puts, environment_gets) =
+        relations.into_environment();
     let graph = Graph {
-        items: items.numbered,
-        tags: tags.numbered,
+        items: items.into_numbered(),
+        tags: tags.into_numbered(),
         prescribes,
         steps,
-        environment_item_puts: relations.environment_item_puts,
-        environment_tag_puts: relations.environment_tag_puts,
-        environment_gets: relations.environment_gets,
+        environment_item_puts,
+        environment_tag_puts,
+        environment_gets,
     };
     Ok((graph, text))
 }

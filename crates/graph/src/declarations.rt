@@ -12,13 +12,33 @@ use steptree::{Declared, Name};
 use syntax::Declaration;
 
 /// The collections of one kind: as they are declared, and by their numbers and names.
-#[derive(Drop)]
 pub(crate) struct Collections<'a> {
     pub(crate) declared: Vec<Declared<'a>>,
     pub(crate) numbered: Numbered<usize>,
 }
 
+impl<'a> Drop for Collections<'a> {
+    // Written by hand, so that it is one call wherever collections are dropped.
+    fn drop(self) {
+        let Collections {
+            declared: _,
+            numbered: _,
+        } = self;
+    }
+}
+
 impl<'a> Collections<'a> {
+    /// Their names and how many components each has, by their numbers.
+    pub(crate) fn into_numbered(self) -> Numbered<usize>
+        ensures { result ≡ self.entry.numbered }
+    {
+        let Collections {
+            declared: _,
+            numbered,
+        } = self;
+        numbered
+    }
+
     /// No collections.
     fn new(alloc: Global) -> Self
         ensures declared { result.declared.items ≡ [] }

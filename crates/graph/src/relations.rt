@@ -20,7 +20,6 @@ pub(crate) struct Numbers<'b> {
 }
 
 /// The relations so far, by the numbers of the collections.
-#[derive(Drop)]
 pub(crate) struct Relations {
     pub(crate) prescribers: Vec<Option<TagCollection>>,
     pub(crate) reads: Vec<Vec<bool>>,
@@ -29,6 +28,21 @@ pub(crate) struct Relations {
     pub(crate) environment_item_puts: Vec<bool>,
     pub(crate) environment_tag_puts: Vec<bool>,
     pub(crate) environment_gets: Vec<bool>,
+}
+
+impl Drop for Relations {
+    // Written by hand, so that it is one call wherever relations are dropped.
+    fn drop(self) {
+        let Relations {
+            prescribers: _,
+            reads: _,
+            item_puts: _,
+            tag_puts: _,
+            environment_item_puts: _,
+            environment_tag_puts: _,
+            environment_gets: _,
+        } = self;
+    }
 }
 
 /// A prescription, by the numbers of its tag collection and its step.
@@ -62,6 +76,26 @@ fn prescribe(
 }
 
 impl Relations {
+    /// What the environment may put, items and tags, and what it may get.
+    pub(crate) fn into_environment(self) -> (Vec<bool>, Vec<bool>, Vec<bool>)
+        ensures { result ≡ (self.environment_item_puts, self.environment_tag_puts, self.environment_gets) }
+    {
+        let Relations {
+            prescribers: _,
+            reads: _,
+            item_puts: _,
+            tag_puts: _,
+            environment_item_puts,
+            environment_tag_puts,
+            environment_gets,
+        } = self;
+        (
+            environment_item_puts,
+            environment_tag_puts,
+            environment_gets,
+        )
+    }
+
     /// Adds one relation, or returns the first of its faults.
     fn relate(&mut self, numbers: &Numbers<'_>, relation: &Relation<'_>) -> Result<(), PlacedFault>
         requires { length numbers.now.tags.now < 2 ^ 16 }

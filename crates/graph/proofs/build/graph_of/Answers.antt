@@ -41,15 +41,15 @@ pub invariant_of-graph : goal.invariant_of-graph
 invariant_of-graph c =
     let is = spelled c.args.tree.now c.in_ok-resolved.resolved c.in_ok-steps.steps c.requires.small c.in_ok-resolved.ensures.0 c.in_ok-resolved.ensures.1 c.in_ok-steps.ensures
     _ _ _ _ c.deref.ensures.value c.deref-2.ensures.value c.deref-3.ensures.value c.in_ok-text.ensures in
-    is_kept c.args.tree.now c.in_ok-resolved.resolved c.in_ok-steps.steps c.requires.small c.in_ok-resolved.ensures.0 c.in_ok-resolved.ensures.1 c.in_ok-steps.ensures
-    _ _ c.len.ensures c.in_ok-prescribes.ensures c.canonical_reads.ensures c.reads_textual.ensures c.requires.text (omega (arith, c.if-len-gt-MOST_TEXT.false, c.len-2.ensures, ap length is))
+    rw (c.into_numbered.ensures, c.into_numbered-2.ensures, c.into_environment-environment_item_puts.ensures) (is_kept c.args.tree.now c.in_ok-resolved.resolved c.in_ok-steps.steps c.requires.small c.in_ok-resolved.ensures.0 c.in_ok-resolved.ensures.1 c.in_ok-steps.ensures
+    _ _ c.len.ensures c.in_ok-prescribes.ensures c.canonical_reads.ensures c.reads_textual.ensures c.requires.text (omega (arith, c.if-len-gt-MOST_TEXT.false, c.len-2.ensures, ap length is)))
 
 pub returns-clause-graph : goal.returns-clause-graph
 returns-clause-graph c =
-    (c.in_ok-resolved.ensures.0, is_its_graph c.args.tree.now c.in_ok-resolved.resolved c.in_ok-steps.steps c.requires.small c.in_ok-resolved.ensures.0 c.in_ok-resolved.ensures.1 c.in_ok-steps.ensures)
+    (c.in_ok-resolved.ensures.0, rw (c.into_numbered.ensures, c.into_numbered-2.ensures, c.into_environment-environment_item_puts.ensures) (is_its_graph c.args.tree.now c.in_ok-resolved.resolved c.in_ok-steps.steps c.requires.small c.in_ok-resolved.ensures.0 c.in_ok-resolved.ensures.1 c.in_ok-steps.ensures))
 
 pub returns-clause-spelled : goal.returns-clause-spelled
 returns-clause-spelled c =
     let is = spelled c.args.tree.now c.in_ok-resolved.resolved c.in_ok-steps.steps c.requires.small c.in_ok-resolved.ensures.0 c.in_ok-resolved.ensures.1 c.in_ok-steps.ensures
     _ _ _ _ c.deref.ensures.value c.deref-2.ensures.value c.deref-3.ensures.value c.in_ok-text.ensures in
-    (is, omega (arith, c.if-len-gt-MOST_TEXT.false, c.len-2.ensures, ap length is))
+    rw (c.into_numbered.ensures, c.into_numbered-2.ensures, c.into_environment-environment_item_puts.ensures) (is, omega (arith, c.if-len-gt-MOST_TEXT.false, c.len-2.ensures, ap length is))
