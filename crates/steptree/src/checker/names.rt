@@ -42,7 +42,8 @@ fn place<N: Named>(names: &[N], text: &str) -> Option<usize>
     ensures within { IfSome result (λ place. place < length names.now) }
 {
     for (place, name) in names.iter().enumerate() {
-        if name.text() == text {
+        // As bytes, which is quicker than as texts.
+        if name.text().as_bytes() == text.as_bytes() {
             return Some(place);
         }
     }

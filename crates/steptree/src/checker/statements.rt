@@ -202,7 +202,7 @@ pub(crate) fn resolve_block(
     ensures keeps { IfOk result (KeepsTo sheet.now) }
     ensures faults { Reports (block_faults (texts names.now) sheet.now block.now) result }
 {
-    let mut statements = Vec::new(alloc);
+    let mut statements = Vec::with_capacity(alloc, block.statements.len())?;
     for statement in &block.statements {
         let resolved = resolve_statement(alloc, names, sheet, statement)?;
         statements.reserve(1)?;

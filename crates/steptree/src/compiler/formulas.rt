@@ -1,4 +1,4 @@
-ghost use Rattle.std.specs.Prelude.{◌≡◌, ◌<◌, IfOk, IfSome};
+ghost use Rattle.std.specs.Prelude.{◌≡◌, ◌<◌, [], IfOk, IfSome};
 ghost use Rattle.steptree.specs.Tree.{Number, Variable, Operation, expression_size};
 ghost use Rattle.steptree.specs.Executed.{operand_of, pair_of, linked, chained, expression_of};
 
@@ -12,8 +12,9 @@ pub(crate) fn formula(alloc: Global, expression: &Expression) -> Result<Formula,
     if let Some(formula) = shallow(expression) {
         return Ok(formula);
     }
-    match chain(alloc, expression)? {
-        Some((first, links)) => Ok(Formula::Chain(first, links)),
+    let mut links = Vec::new(alloc);
+    match chain(expression, &mut links)? {
+        Some(first) => Ok(Formula::Chain(first, links)),
         None => Ok(Formula::Deep(expression.copied(alloc)?)),
     }
 }
@@ -38,24 +39,23 @@ fn shallow(expression: &Expression) -> Option<Formula>
 }
 
 // The chain of an expression, if it is one: its innermost operation is a pair, and each other one has a number or a variable
-// as an operand, or a pair as the right one.
+// as an operand, or a pair as the right one. The links are added to a list that has none.
 #[tactic(auto, using(crate::proofs::Chained::one_more))]
-fn chain(alloc: Global, expression: &Expression) -> Result<Option<(Pair, Vec<Link>)>, AllocError>
-    ensures { IfOk result (λ found. IfSome found (λ parts. chained (pair_of parts.0) parts.1.items ≡ expression.now)) }
+fn chain(expression: &Expression, links: &mut Vec<Link>) -> Result<Option<Pair>, AllocError>
+    requires { links.old.items ≡ [] }
+    ensures { IfOk result (λ found. IfSome found (λ first. chained (pair_of first) links.new.items ≡ expression.now)) }
 {
     if let Some(first) = pair(expression) {
-        return Ok(Some((first, Vec::new(alloc))));
+        return Ok(Some(first));
     }
     let Some((before, link)) = split(expression) else {
         return Ok(None);
     };
-    match chain(alloc, before)? {
-        Some((first, mut links)) => {
-            links.push(link)?;
-            Ok(Some((first, links)))
-        }
-        None => Ok(None),
-    }
+    let Some(first) = chain(before, links)? else {
+        return Ok(None);
+    };
+    links.push(link)?;
+    Ok(Some(first))
 }
 
 // Splits an operation into one of its operands and the link that makes the operation of it. The other operand is a number

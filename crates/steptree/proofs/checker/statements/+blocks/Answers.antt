@@ -17,7 +17,7 @@ resolve_block-resolve_statement-requires t c =
 pub resolve_block-returns-in_err-resolved-clause-faults : goal.resolve_block-returns-in_err-resolved-clause-faults
 resolve_block-returns-in_err-resolved-clause-faults t c =
     let items : c.deref-statement-items.result.now ≡ c.block.inside.statements.items = c.deref-statement-items.ensures.value in
-    passed_on _ c.from_residual.result c.in_err-resolved.field-0.0 c.from_residual.ensures.1
+    passed_on _ c.from_residual-in_err-resolved.result c.in_err-resolved.field-0.0 c.from_residual-in_err-resolved.ensures.1
     (rw (sym c.block.view_is, sym items) (first_here (texts c.args.names.now) c.args.sheet.now c.deref-statement-items.result.now c.loop-statement.statement-index c.loop-statement.statements.items c.statement-item.result
     c.loop-statement-test.true c.statement-item.is c.loop-statement.invariant c.in_err-resolved.field-0.0 c.in_err-resolved.ensures.faults))
 
