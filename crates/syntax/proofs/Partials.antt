@@ -2,7 +2,7 @@
 use Rattle.std.proofs.Common.{◌≡◌, ℕ, ◌≤◌, ◌<◌, true, false, List, [], ◌∷◌, ◌++◌, length, reverse, refl, ap, ◌∙◌, arith, if◌then◌else◌, nat_lt, rules, Vec, Global}
 use Rattle.std.proofs.lemmas.List.{reverse-append, length-reverse}
 use Rattle.syntax.specs.declared.limits.TheConstants.{MOST_BRACKETS}
-use Rattle.syntax.specs.declared.partial.Level.{Level as Kept_level}
+use Rattle.syntax.specs.declared.level.Level.{Level as Kept_level}
 use Rattle.syntax.specs.declared.partial.Partial.{Partial}
 use Rattle.syntax.specs.Grammar.{Position}
 use Rattle.syntax.specs.declared.limits.TheConstants.{MOST_NAME_BYTES}
@@ -44,7 +44,7 @@ pub none_open : (state : Expression) (kept : Partial) → IsPartial state kept �
 none_open state kept is none = empty state.outer (as_many_open state kept is ∙ none)
 
 -- the level around the innermost one
-pub record Around (state : Expression) (kept : Partial) (rest : List Kept_level) (around : Kept_level) : Type 0 where
+pub record Outside (state : Expression) (kept : Partial) (rest : List Kept_level) (around : Kept_level) : Type 0 where
   pub level : Level
   pub place : Position
   pub outer : List (Level × Position)
@@ -53,11 +53,11 @@ pub record Around (state : Expression) (kept : Partial) (rest : List Kept_level)
   pub others : AreAll (λ (one : Level × Position). IsLevel one.0) outer (reverse rest)
 
 split : (state : Expression) (kept : Partial) (rest : List Kept_level) (around : Kept_level) (outers : List (Level × Position)) → state.outer ≡ outers
-    → AreAll (λ (one : Level × Position). IsLevel one.0) outers (around ∷ reverse rest) → Around state kept rest around
+    → AreAll (λ (one : Level × Position). IsLevel one.0) outers (around ∷ reverse rest) → Outside state kept rest around
 split state kept rest around [] e are = absurd are
 split state kept rest around (one ∷ outer) e are = record { level = one.0; place = one.1; outer = outer; is = e; outside = are.0; others = are.1 }
 
-pub popped : (state : Expression) (kept : Partial) (rest : List Kept_level) (around : Kept_level) → kept.outer.items ≡ rest ++ around ∷ [] → IsPartial state kept → Around state kept rest around
+pub popped : (state : Expression) (kept : Partial) (rest : List Kept_level) (around : Kept_level) → kept.outer.items ≡ rest ++ around ∷ [] → IsPartial state kept → Outside state kept rest around
 popped state kept rest around items is = grind (arith, reverse-append, split)
 
 -- the same levels in another vector

@@ -1,3 +1,4 @@
+pub mod Around
 pub mod Blocks
 pub mod ComponentNames
 pub mod Declarations

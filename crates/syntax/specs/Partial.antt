@@ -6,7 +6,7 @@ use Rattle.syntax.specs.declared.limits.TheConstants.{MOST_DEPTH, MOST_BRACKETS}
 use Rattle.syntax.specs.declared.operand.Operand.{Operand}
 use Rattle.syntax.specs.declared.operand.Operand.TheVariants.{Kept, TooDeep}
 use Rattle.syntax.specs.declared.operand.Pending.{Pending}
-use Rattle.syntax.specs.declared.partial.Level.{Level as Kept_level}
+use Rattle.syntax.specs.declared.level.Level.{Level as Kept_level}
 use Rattle.syntax.specs.declared.partial.Partial.{Partial}
 use Rattle.syntax.specs.declared.partial.After.{After}
 use Rattle.syntax.specs.declared.partial.After.TheVariants.{AwaitsOperand, HasProduct, Ends}

@@ -47,6 +47,16 @@ impl<'a> Cursor<'a> {
         }
     }
 
+    /// The token behind the next one; where there is none, an unknown one.
+    pub(crate) fn second(&self) -> Token<'a>
+        ensures { lexeme_of result ≡ (front_of (behind_front (left self.now))).0 }
+    {
+        match self.tokens.get(self.passed..) {
+            Some([_, placed, ..]) => placed.token,
+            _ => Token::Unknown,
+        }
+    }
+
     /// The position of the next token; 0 at the end.
     pub(crate) fn place(&self) -> usize
         ensures { result ≡ (front_of (left self.now)).1 }

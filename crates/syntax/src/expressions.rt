@@ -1,13 +1,36 @@
-//! Expressions: a loop over their tokens, with a level for each open bracket.
-ghost use Rattle.std.specs.Prelude.{◌<◌, ◌∷◌, [], length, IfOk, IfErr, OnOk};
+//! Expressions: a loop over their tokens, with a level for each open bracket; and a short way for an operand alone.
+ghost use Rattle.std.specs.Prelude.{◌<◌, ◌∷◌, [], length, Bool, IfOk, IfErr, IfSome, OnOk};
 ghost use Rattle.syntax.specs.Expected.{possible, whole};
+ghost use Rattle.syntax.specs.Front.{behind_front};
 ghost use Rattle.syntax.specs.Parsed.{left, Stops};
 ghost use Rattle.syntax.specs.Whole.{IsExpression, ReadsExpression, StopsInExpression};
 
+use crate::MOST_NAME_BYTES;
 use crate::cursor::Cursor;
+use crate::joints::{Head, Joint};
 use crate::partial::{After, Partial};
 use crate::stop::Stop;
-use steptree::NamedExpression;
+use steptree::{Expression, Name, NamedExpression, Node};
+
+// The expression of the next token alone: a number or a variable, if the token behind it can only end an expression. A name
+// that is too long is left to `expression`, which reports it.
+fn operand_alone<'a>(cursor: &Cursor<'a>) -> Option<NamedExpression<'a>>
+    ensures reads { IfSome result (λ tree. (may_compare : Bool) → ReadsExpression may_compare tree (left cursor.now) (behind_front (left cursor.now))) }
+    ensures fewer { IfSome result (λ tree. length (behind_front (left cursor.now)) < length (left cursor.now)) }
+{
+    let Joint::Ends = Joint::of(cursor.second()) else {
+        return None;
+    };
+    let node = match Head::of(cursor.front()) {
+        Head::Number(value) => Node::Number(value),
+        Head::Variable(text) if text.len() <= MOST_NAME_BYTES => Node::Variable(Name {
+            text,
+            place: cursor.place(),
+        }),
+        _ => return None,
+    };
+    Some(Expression { node })
+}
 
 /// An expression, or a component of a key, which has no comparison outside brackets.
 ///
@@ -21,6 +44,10 @@ pub(crate) fn expression<'a>(
     ensures fewer { OnOk result (length (left cursor.new) < length (left cursor.old)) }
     ensures stops { IfErr result (StopsInExpression may_compare (left cursor.old) (left cursor.new)) }
 {
+    if let Some(tree) = operand_alone(cursor) {
+        cursor.advance();
+        return Ok(tree);
+    }
     let mut partial = Partial::begun(cursor.alloc, may_compare, cursor.place());
     let mut product = None;
     loop {

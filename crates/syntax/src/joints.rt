@@ -7,6 +7,7 @@ use crate::{Symbol, Token};
 use steptree::Operator;
 
 /// What an operand may begin with.
+#[derive(Clone, Copy)]
 pub(crate) enum Head<'a> {
     Minus,
     OpenBracket,

@@ -27,7 +27,11 @@ pub fn tokens<'a>(alloc: Global, text: &'a str) -> Result<Vec<Placed<'a>>, Alloc
             return Ok(tokens);
         }
         let (token, length) = first_token(&text[place..]);
-        tokens.push(Placed { token, place })?;
+        // `push` would call a function for each token.
+        if tokens.len() >= tokens.capacity() {
+            tokens.reserve(1)?;
+        }
+        tokens.push_reserved(Placed { token, place });
         place += length;
     }
 }

@@ -15,6 +15,7 @@ mod grammar;
 mod joints;
 mod keys;
 mod law;
+mod level;
 mod lexer;
 mod limits;
 mod name_lists;

@@ -3,43 +3,20 @@ ghost use Rattle.std.specs.Prelude.{◌<◌, ◌∷◌, List, length, IfOk, IfEr
 ghost use Rattle.syntax.specs.Grammar.{Position};
 ghost use Rattle.syntax.specs.Tree.{multiplication_operator, addition_operator, comparison_operator};
 ghost use Rattle.syntax.specs.Limits.{one_more, name_limits};
-ghost use Rattle.syntax.specs.Expected.{broken_off as breaking, opened, begun, negating, bracketing, passing, awaiting_product, awaiting_sum, awaiting_comparison};
+ghost use Rattle.syntax.specs.Expected.{broken_off as breaking, begun, negating, bracketing, passing, awaiting_product, awaiting_sum, awaiting_comparison};
 ghost use Rattle.syntax.specs.Parsed.{left, TellsMove};
 ghost use Rattle.syntax.specs.Whole.{EndsWithin, StopsAtEnd};
-ghost use Rattle.syntax.specs.Partial.{IsPartial, IsLevel, WhereFresh, EndsLevel, Becomes, EndsOperand, Awaits, ClosesBracket, Fewer};
+ghost use Rattle.syntax.specs.Partial.{IsPartial, WhereFresh, Becomes, EndsOperand, Awaits, ClosesBracket, Fewer};
 ghost use Rattle.syntax.specs.Partial.{TakesOperand, StopsAtOperand, TakesJoint};
 
 use crate::cursor::Cursor;
 use crate::joints::{Head, Joint};
+use crate::level::{Around, Level};
 use crate::operand::{Operand, Pending, joined};
 use crate::stop::Stop;
 use crate::{MOST_BRACKETS, MOST_DEPTH, MOST_NAME_BYTES};
 use std::alloc::{AllocError, Global};
-use std::mem;
 use steptree::{Expression as Tree, Name, NamedExpression, Node, Operator};
-
-/// What waits within one bracket, or outside all brackets: the left operands of a comparison, a sum and a product, and how
-/// many minus signs stand before the operand.
-pub(crate) struct Level<'a> {
-    pub(crate) may_compare: bool,
-    pub(crate) comparison: Option<Pending<'a>>,
-    pub(crate) sum: Option<Pending<'a>>,
-    pub(crate) product: Option<Pending<'a>>,
-    pub(crate) negations: usize,
-}
-
-impl<'a> Drop for Level<'a> {
-    // Written by hand, so that dropping a level is one call everywhere.
-    fn drop(self) {
-        let Level {
-            may_compare: _,
-            comparison: _,
-            sum: _,
-            product: _,
-            negations: _,
-        } = self;
-    }
-}
 
 /// An expression so far: the place of its first token, the place of the first limit that is passed within it, its
 /// innermost level, and the levels around it, the outermost first.
@@ -47,7 +24,7 @@ pub(crate) struct Partial<'a> {
     pub(crate) first: usize,
     pub(crate) passed: Option<usize>,
     pub(crate) level: Level<'a>,
-    pub(crate) outer: Vec<Level<'a>>,
+    pub(crate) outer: Vec<Around<'a>>,
 }
 
 impl<'a> Drop for Partial<'a> {
@@ -70,33 +47,6 @@ pub(crate) enum After<'a> {
     HasProduct(Operand<'a>),
     /// The next token is not taken: the expression ends with this product, or breaks off if a bracket is open.
     Ends(Operand<'a>),
-}
-
-impl<'a> Level<'a> {
-    /// The expression of this level, which ends with `product`.
-    fn whole(&mut self, alloc: Global, product: Operand<'a>) -> Result<Operand<'a>, AllocError>
-        ensures { IfOk result (EndsLevel self.old product.entry) }
-    {
-        // In most levels no operand waits.
-        if self.sum.is_none() && self.comparison.is_none() {
-            return Ok(product);
-        }
-        let sum = joined(alloc, self.sum.take(), product)?;
-        joined(alloc, self.comparison.take(), sum)
-    }
-
-    /// A level before its first operand.
-    pub(crate) fn opened(may_compare: bool) -> Level<'a>
-        ensures { WhereFresh may_compare (λ comparing. IsLevel (opened comparing) result) }
-    {
-        Level {
-            may_compare,
-            comparison: None,
-            sum: None,
-            product: None,
-            negations: 0,
-        }
-    }
 }
 
 impl<'a> Partial<'a> {
@@ -140,12 +90,12 @@ impl<'a> Partial<'a> {
     }
 
     /// After an opening bracket.
-    fn open(&mut self, place: usize) -> Result<(), AllocError>
+    fn open(&mut self, alloc: Global, place: usize) -> Result<(), AllocError>
         ensures { OnOk result (Becomes (λ state. bracketing state place) self.old self.new) }
     {
         self.count(place);
         self.outer.reserve(1)?;
-        let around = mem::replace(&mut self.level, Level::opened(true));
+        let around = self.level.set_aside(alloc)?;
         self.outer.push_reserved(around);
         Ok(())
     }
@@ -188,7 +138,7 @@ impl<'a> Partial<'a> {
             }
             Head::OpenBracket => {
                 cursor.advance();
-                self.open(place)?;
+                self.open(cursor.alloc, place)?;
                 return Ok(None);
             }
             Head::Number(value) => {
@@ -260,12 +210,12 @@ impl<'a> Partial<'a> {
         &mut self,
         alloc: Global,
         product: Operand<'a>,
-        around: Level<'a>,
+        around: Around<'a>,
     ) -> Result<Operand<'a>, AllocError>
         ensures { IfOk result (ClosesBracket self.old around.entry product.entry self.new) }
     {
         let expression = self.level.whole(alloc, product)?;
-        self.level = around;
+        around.put_back(&mut self.level);
         self.product(alloc, expression)
     }
 

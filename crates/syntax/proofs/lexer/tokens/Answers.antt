@@ -1,9 +1,9 @@
-use Rattle.std.proofs.Common.{is_ok, ap, ◌∙◌, arith}
-use Rattle.std.proofs.ResultArms.{chosen}
+use Rattle.std.proofs.Common.{◌≡◌, ap, ◌∙◌, arith, rules}
 use Rattle.std.specs.List.{prefix_len}
 use Rattle.syntax.specs.Tokens.{is_blank, spots_of}
 use Rattle.syntax.proofs.Runs.{boundary}
 use Rattle.syntax.proofs.Chain.{blanks_within, not_blank, finished, token_read, SoFar-pushed}
+use Rattle.syntax.proofs.lexer.tokens.Goals.{then-len-capacity+in_ok-reserve-2, else-len-capacity}
 use Rattle.syntax.proofs.lexer.tokens.Goals as goal
 
 pub overflow_add-place : goal.overflow_add-place
@@ -33,7 +33,8 @@ loop-place-preserved c =
     let text = c.args.text.now in
     let blanks = c.leading_blanks-place.ensures ∙ ap (prefix_len is_blank) (c.as_bytes.ensures.value ∙ c.range_from.ensures.value) in
     let token = c.first_token-length.ensures in
-    let pushed = chosen _ _ _ _ c.push.ensures.items (ap is_ok c.in_ok-push.was) in
+    let same : c.if-len-capacity.tokens.items ≡ c.loop-place.tokens.items = elim c.if-len-capacity.branch [ then-len-capacity+in_ok-reserve-2 w ↦ search rules | else-len-capacity w ↦ search rules ] in
+    let pushed = rw same at c.push_reserved.ensures.items in
     let read = token_read text c.range_from-in-loop-place.result.now c.loop-place.place _ _ _ (spots_of c.loop-place.tokens.items) blanks c.range_from-in-loop-place.ensures.value token.stands token.within c.loop-place.invariant.so_far in
     record {
       within = omega arith;

@@ -2,7 +2,7 @@ use Rattle.std.proofs.Common.{sym, subst}
 use Rattle.syntax.specs.Expected.{sum_of}
 use Rattle.syntax.specs.Partial.{WaitsInSum, WaitsInComparison}
 use Rattle.syntax.proofs.Returned.{as_ok}
-use Rattle.syntax.proofs.partial.Level.whole.Goals as goal
+use Rattle.syntax.proofs.level.Level.whole.Goals as goal
 
 pub returns : goal.returns
 returns c = as_ok c.joined-2.result _ _ c.joined-2.ensures.comparisons (λ new holds_comparison level prod is holds.
