@@ -1,4 +1,4 @@
-ghost use Rattle.std.specs.Prelude.{◌≡◌, map};
+ghost use Rattle.std.specs.Prelude.{◌≡◌, ◌++◌, codes, map};
 ghost use Rattle.graph.specs.Canonical.{after_commas, operator_text, expression_text, item_text, tag_text};
 ghost use Rattle.graph.specs.Pieces.{Writes, after_colon, in_words};
 
@@ -8,22 +8,22 @@ use std::alloc::AllocError;
 use steptree::{Components, Expression, Node, Operator};
 use terms::{ItemCollection, TagCollection};
 
-/// The text of an operator.
+/// The text of an operator, between blanks.
 fn sign(operator: Operator) -> &'static str
-    ensures { result.now ≡ operator_text operator }
+    ensures { result.now ≡ codes " " ++ operator_text operator ++ codes " " }
 {
     match operator {
-        Operator::Add => "+",
-        Operator::Subtract => "-",
-        Operator::Multiply => "*",
-        Operator::Divide => "/",
-        Operator::Remainder => "%",
-        Operator::Equal => "==",
-        Operator::NotEqual => "!=",
-        Operator::Less => "<",
-        Operator::LessOrEqual => "<=",
-        Operator::Greater => ">",
-        Operator::GreaterOrEqual => ">=",
+        Operator::Add => " + ",
+        Operator::Subtract => " - ",
+        Operator::Multiply => " * ",
+        Operator::Divide => " / ",
+        Operator::Remainder => " % ",
+        Operator::Equal => " == ",
+        Operator::NotEqual => " != ",
+        Operator::Less => " < ",
+        Operator::LessOrEqual => " <= ",
+        Operator::Greater => " > ",
+        Operator::GreaterOrEqual => " >= ",
     }
 }
 
@@ -48,7 +48,7 @@ pub(crate) fn put_expression(
             let (left, right) = &**operands;
             put(text, &["("])?;
             put_expression(text, words, left)?;
-            put(text, &[" ", sign(*operator), " "])?;
+            put(text, &[sign(*operator)])?;
             put_expression(text, words, right)?;
             put(text, &[")"])
         }
